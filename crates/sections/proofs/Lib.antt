@@ -1,0 +1,4 @@
+pub mod EditLaws
+pub mod LeLaws
+pub mod Runs
+pub mod AddressLaws

@@ -1,0 +1,4 @@
+pub mod Le
+pub mod Edit
+pub mod Address
+pub mod Lists
