@@ -2,8 +2,9 @@
 use mathlib.Core.Path.{_≡_, refl, sym, ap, _∙_, subst}
 use mathlib.Core.Logic.{_⊎_, inl, inr}
 use Prim.Native.Nat.{ℕ, _+_, _-_, _*_, _/_, _%_, _^_, _≤_, _<_}
-use native.Mathlib.Nat.{add-mul, eq-of-mul-eq-mul-right, mod-lt, mul-le-mul-right, mul-one, mul-pos, mul-right-comm}
+use native.Mathlib.Nat.{add-mul, eq-of-mul-eq-mul-right, lt-of-lt-of-le, mod-lt, mul-le-mul-right, mul-one, mul-pos, mul-right-comm}
 use native.Mathlib.Omega.{arith}
+use lib.Dec.{lit<, lit≤}
 use lib.Pow.{pow-pos, shr-lt, split}
 use Rattle.vertices.specs.Half.{magnitude, roundEven, encoded}
 use Rattle.vertices.specs.Ieee16.{halfSize, gap}
@@ -111,10 +112,10 @@ low : (m : ℕ) → m < 947912704 → Closest (magnitude 23 m) (roundEven (magni
 low m h =
     let u = magnitude 23 m in
     let q : u / 2 ^ 125 < 1024 = shr-lt 10 125 (subst (λ (n : ℕ). u < n) least-normal (magnitude-lt 23 m 947912704 h)) in
-    closest u (2 ^ 125) 1 u (omega arith) (pow-pos 125)
+    closest u (2 ^ 125) 1 u (lit< tt) (pow-pos 125)
     (ap (λ (n : ℕ). n + u % 2 ^ 125 * 1) (halfSize-low (u / 2 ^ 125) q) ∙ ap (λ (n : ℕ). u / 2 ^ 125 * 2 ^ 125 + n) (mul-one (u % 2 ^ 125)) ∙ split u 125)
     (halfStep-low (u / 2 ^ 125) q)
-    (omega arith)
+    (lt-of-lt-of-le q (lit≤ tt))
 
 -- `encoded` gives the nearest half
 pub encoded-closest : (m : ℕ) → m ≤ 2139095040 → Closest (magnitude 23 m) (encoded m)

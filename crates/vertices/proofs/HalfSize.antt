@@ -15,6 +15,14 @@ use Rattle.vertices.specs.Ieee16.{halfSize}
 pub side : (a b : ℕ) → (a ≤ b) ⊎ (b < a)
 side a b = elim (eq-zero-or-pos (a - b)) [ inl e ↦ inl (omega arith) | inr l ↦ inr (omega arith) ]
 
+-- two numbers are equal, or they are not
+pub equal-or-not : (a b : ℕ) → (a ≡ b) ⊎ (a ≡ b → ⊥)
+equal-or-not a b =
+    elim (side a b) [
+      | inr l ↦ inr (λ e. omega arith)
+      | inl l ↦ elim (side b a) [ inl k ↦ inl (omega arith) | inr k ↦ inr (λ e. omega arith) ]
+    ]
+
 -- a product of two powers of 2 is the power of the sum
 pub powers : (i j k : ℕ) → i + j ≡ k → 2 ^ i * 2 ^ j ≡ 2 ^ k
 powers i j k e = sym (pow-add 2 i j) ∙ ap (λ (n : ℕ). 2 ^ n) e
