@@ -6,6 +6,7 @@ use Prim.Native.Nat.{ℕ, suc, _+_, _-_, _*_, _/_, _%_, _^_, _≤_, _<_}
 use native.Mathlib.Nat.{mul-one}
 use native.Mathlib.Omega.{arith}
 use lib.Dec.{eqb, eqb→eq, leb, not-T}
+use borrow.Author.Tests.{le-leb, lt-leb}
 use lib.Ieee.{Float, nan, inf, binary32, odd, ofFields, ofBits}
 use lib.Ieee.Bits.{cond-no}
 use lib.Ieee.Exact.{HasValue, odd-sign}
@@ -50,10 +51,19 @@ pub float-value : (b : ℕ) → b % 2 ^ 31 < infinity32 → HasValue (ofBits bin
 unfolding ofBits
 float-value b h = by-fields (leb (2 ^ 31) b) (b % 2 ^ 31) (b % 8388608) h (omega arith)
 
+-- the float is negative where the half is
+negative : (h : ℕ) → h < 2 ^ 16 → leb (2 ^ 31) (f16ToF32 h) ≡ leb (2 ^ 15) h
+negative h w =
+    let sign : f16ToF32 h / 2 ^ 31 ≡ h / 2 ^ 15 = decodes h w .sign in
+    elim (side (2 ^ 15) h) [
+      | inl g ↦ le-leb (2 ^ 31) (f16ToF32 h) (omega arith) ∙ sym (le-leb (2 ^ 15) h g)
+      | inr l ↦ lt-leb (2 ^ 31) (f16ToF32 h) (omega arith) ∙ sym (lt-leb (2 ^ 15) h l)
+    ]
+
 -- A finite half's float stands in `lib.Ieee` for the half's own number.
-pub decoded-value : (h : ℕ) → h < 2 ^ 16 → h % 2 ^ 15 < infinity16
-    → HasValue (ofBits binary32 (f16ToF32 h)) (leb (2 ^ 31) (f16ToF32 h)) (halfSize (h % 2 ^ 15)) (2 ^ 149)
+pub decoded-value : (h : ℕ) → h < 2 ^ 16 → h % 2 ^ 15 < infinity16 → HasValue (ofBits binary32 (f16ToF32 h)) (leb (2 ^ 15) h) (halfSize (h % 2 ^ 15)) (2 ^ 149)
 decoded-value h w l =
     let d = decodes h w in
     let b = f16ToF32 h in
-    subst (λ (n : ℕ). HasValue (ofBits binary32 b) (leb (2 ^ 31) b) n (2 ^ 149)) (d .same l) (float-value b (d .finite l))
+    subst (λ (s : Bool). HasValue (ofBits binary32 b) s (halfSize (h % 2 ^ 15)) (2 ^ 149)) (negative h w)
+    (subst (λ (n : ℕ). HasValue (ofBits binary32 b) (leb (2 ^ 31) b) n (2 ^ 149)) (d .same l) (float-value b (d .finite l)))

@@ -1,121 +1,56 @@
+-- Each branch of `f32_to_f16` computes `encoded` of the bits below the sign, by the law of its case.
+use mathlib.Core.Path.{_≡_, _∙_, ap, sym}
+use Prim.Native.Nat.{ℕ, _+_, _-_, _/_, _%_}
+use native.Mathlib.Nat.{add-zero}
+use native.Mathlib.Omega.{arith}
 use borrow.Author.Needs.{needs}
+use lib.Pow.{pow-lt, pow-mono}
+use Rattle.vertices.specs.Half.{encoded, roundEven}
+use Rattle.vertices.proofs.HalfEncode.{encoded-fits, encoded-nan, encoded-none, encoded-normal, encoded-over, encoded-subnormal, f32-is, shifted-one}
 use Rattle.vertices.proofs.halves.f32_to_f16.Statement.{statement}
 use Rattle.vertices.proofs.halves.f32_to_f16.Tie as tie
-use Rattle.vertices.proofs.halves.f32_to_f16.Reads as reads
-use Rattle.vertices.proofs.halves.f32_to_f16.Lts as lts
-use Rattle.vertices.proofs.halves.round_even.Reads as round-even-reads
 
--- src/halves.rt:46:16
-mul-sign : tie.Need-mul-sign
-mul-sign c = search needs
+-- what is rounded to a normal half, and to a subnormal one
+normal : (c : tie.After-round-even) → encoded (c .before .before .before .before .args .bits % 2147483648) ≡ c .round-even .result
+normal c = encoded-normal _ (c .before .if3 .taken) (omega arith) ∙ sym (c .round-even .ensures)
 
--- src/halves.rt:49:18
-add-result : tie.Need-add-result
-add-result c = search needs
+subnormal : (c : tie.After-round-even2) → encoded (c .before .before .before .before .before .args .bits % 2147483648) ≡ c .round-even2 .result
+subnormal c =
+    let m = c .before .before .before .before .before .args .bits % 2147483648 in
+    encoded-subnormal m (c .before .if4 .taken) (omega arith) ∙ ap (roundEven (8388608 + m % 8388608)) (sym (shifted-one (126 - m / 8388608) (omega arith)))
+    ∙ sym (c .round-even2 .ensures)
 
--- src/halves.rt:49:10
-add-result-2 : tie.Need-add-result-2
-add-result-2 c = search needs
-
--- src/halves.rt:49:9
-cast-result : tie.Need-cast-result
-cast-result c = search needs
-
--- src/halves.rt:51:10
-add-result-3 : tie.Need-add-result-3
-add-result-3 c = search needs
-
--- src/halves.rt:51:9
-cast-result-2 : tie.Need-cast-result-2
-cast-result-2 c = search needs
-
--- src/halves.rt:53:28
-sub-round-even : tie.Need-sub-round-even
-sub-round-even c = search needs
-
--- src/halves.rt:53:17
-round-even-requires : tie.Need-round-even-requires
-round-even-requires c κs = search needs
-
--- src/halves.rt:53:10
-add-result-4 : tie.Need-add-result-4
-add-result-4 c = ?
-
--- src/halves.rt:53:9
-cast-result-3 : tie.Need-cast-result-3
-cast-result-3 c = ?
-
--- src/halves.rt:56:28
-add-round-even : tie.Need-add-round-even
-add-round-even c = search needs
-
--- src/halves.rt:56:64
-sub-round-even-2 : tie.Need-sub-round-even-2
-sub-round-even-2 c = search needs
-
--- src/halves.rt:56:58
-shl-round-even : tie.Need-shl-round-even
-shl-round-even c = search needs
-
--- src/halves.rt:56:17
-round-even-requires-2 : tie.Need-round-even-requires-2
-round-even-requires-2 c κs = ?
-
--- src/halves.rt:56:10
-add-result-5 : tie.Need-add-result-5
-add-result-5 c = ?
-
--- src/halves.rt:56:9
-cast-result-4 : tie.Need-cast-result-4
-cast-result-4 c = ?
-
--- src/halves.rt:58:9
-cast-result-5 : tie.Need-cast-result-5
-cast-result-5 c = search needs
-
--- src/halves.rt:43:1
-returns : tie.Need-returns
-returns c = ?
-
--- src/halves.rt:43:1
-returns-2 : tie.Need-returns-2
-returns-2 c = ?
-
--- src/halves.rt:43:1
-returns-3 : tie.Need-returns-3
-returns-3 c = ?
-
--- src/halves.rt:43:1
-returns-4 : tie.Need-returns-4
-returns-4 c = ?
-
--- src/halves.rt:43:1
-returns-5 : tie.Need-returns-5
-returns-5 c = ?
+divisor : tie.Need-round-even-requires-2
+divisor c κs =
+    let k = 126 - c .before .before .before .before .args .bits % 2147483648 / 8388608 in
+    let e = shifted-one k (omega arith) in
+    let l = pow-lt {i = 0} {j = k} (omega arith) in
+    let u = pow-mono {i = k} {j = 24} (omega arith) in
+    (omega arith, omega arith)
 
 pub f32-to-f16-spec : {M : Type 1} → statement M
 f32-to-f16-spec =
     tie.close
     (tie.spec
-    mul-sign
-    add-result
-    add-result-2
-    cast-result
-    add-result-3
-    cast-result-2
-    sub-round-even
-    round-even-requires
-    add-result-4
-    cast-result-3
-    add-round-even
-    sub-round-even-2
-    shl-round-even
-    round-even-requires-2
-    add-result-5
-    cast-result-4
-    cast-result-5
-    returns
-    returns-2
-    returns-3
-    returns-4
-    returns-5)
+    (λ c. search needs)
+    (λ c. search needs)
+    (λ c. search needs)
+    (λ c. search needs)
+    (λ c. search needs)
+    (λ c. search needs)
+    (λ c. search needs)
+    (λ c κs. search needs)
+    (λ c. omega (arith, normal c, encoded-fits (c .before .before .before .before .args .bits % 2147483648)))
+    (λ c. omega (arith, normal c, encoded-fits (c .before .before .before .before .args .bits % 2147483648)))
+    (λ c. search needs)
+    (λ c. search needs)
+    (λ c. search needs)
+    divisor
+    (λ c. omega (arith, subnormal c, encoded-fits (c .before .before .before .before .before .args .bits % 2147483648)))
+    (λ c. omega (arith, subnormal c, encoded-fits (c .before .before .before .before .before .args .bits % 2147483648)))
+    (λ c. search needs)
+    (λ c. f32-is (c .before .args .bits) _ (encoded-nan _ (c .if1 .taken)))
+    (λ c. f32-is (c .before .before .args .bits) _ (encoded-over _ (c .if2 .taken) (omega arith)))
+    (λ c. f32-is (c .before .before .before .before .args .bits) _ (normal c))
+    (λ c. f32-is (c .before .before .before .before .before .args .bits) _ (subnormal c))
+    (λ c. sym (add-zero _) ∙ f32-is (c .before .before .before .before .args .bits) 0 (encoded-none _ (omega arith))))
