@@ -1,14 +1,14 @@
 -- Laws of `decoded`: its value by cases, as the code computes it, and its size.
-use mathlib.Core.Path.{_≡_, refl, sym, ap, _∙_, subst}
+use mathlib.Core.Path.{_≡_, refl, sym, ap, _∙_}
 use mathlib.Core.Logic.{inl, inr}
 use Prim.Native.Nat.{ℕ, suc, _+_, _-_, _*_, _/_, _%_, _^_, _≤_, _<_}
-use native.Mathlib.Nat.{mod-eq-of-lt, pow-suc, mul-assoc, mul-le-mul-right, mul-lt-mul-of-pos-right}
+use native.Mathlib.Nat.{mod-eq-of-lt, mul-assoc, mul-le-mul-right, mul-lt-mul-of-pos-right, pow-suc}
 use native.Mathlib.Omega.{arith}
 use lib.Count.{leadingZeros, leading-top, leading-unique}
-use lib.Pow.{pow-mono, pow-pos}
+use lib.Pow.{pow-pos}
 use borrow.Author.Tests.{eq-eqb, le-ltb, lt-ltb, ne-eqb}
 use Rattle.vertices.specs.Half.{magnitude, normalised, decoded, f16ToF32}
-use Rattle.vertices.specs.Ieee16.{halfSize, infinity16, infinity32}
+use Rattle.vertices.specs.Ieee16.{halfSize}
 use Rattle.vertices.proofs.HalfSize.{side, powers, magnitude-at, halfSize-at, halfSize-low}
 
 -- the sign's bit and the bits below it

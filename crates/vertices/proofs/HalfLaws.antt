@@ -1,14 +1,14 @@
 -- What holds of `f16ToF32` and `f32ToF16` at every half h < 2 ^ 16 and every float b < 2 ^ 32: they are IEEE 754's conversions as `specs/Ieee16.antt` states them.
 use mathlib.Core.Path.{_≡_, refl, sym, ap, _∙_, subst}
 use mathlib.Core.Logic.{inl, inr}
-use Prim.Native.Nat.{ℕ, _+_, _-_, _*_, _/_, _%_, _^_, _≤_, _<_}
+use Prim.Native.Nat.{ℕ, _+_, _*_, _/_, _%_, _^_, _≤_, _<_}
 use native.Mathlib.Omega.{arith}
 use borrow.Author.Tests.{eq-eqb, ne-eqb}
 use Rattle.vertices.specs.Half.{magnitude, decoded, encoded, f16ToF32, f32ToF16}
 use Rattle.vertices.specs.Ieee16.{infinity16, infinity32, halfSize, gap, distance, Decoded, Half, Nearest, Encoded}
 use Rattle.vertices.proofs.HalfSize.{equal-or-not, side}
 use Rattle.vertices.proofs.HalfDecode.{decoded-finite, decoded-fits, decoded-same, decoded-special, decoded-zero}
-use Rattle.vertices.proofs.HalfEncode.{encoded-fits, encoded-nan, encoded-none, encoded-number, encoded-over}
+use Rattle.vertices.proofs.HalfEncode.{encoded-fits, encoded-nan, encoded-none, encoded-over}
 use Rattle.vertices.proofs.HalfNearest.{Closest, encoded-closest, exact, one-closest}
 
 -- ---- the parts of the results

@@ -1,6 +1,6 @@
 -- The half nearest to a finite float, by the bits below the sign: `encoded` gives it, and there is one.
 use mathlib.Core.Path.{_≡_, refl, sym, ap, _∙_, subst}
-use mathlib.Core.Logic.{_⊎_, inl, inr}
+use mathlib.Core.Logic.{inl, inr}
 use Prim.Native.Nat.{ℕ, _+_, _-_, _*_, _/_, _%_, _^_, _≤_, _<_}
 use native.Mathlib.Nat.{add-mul, eq-of-mul-eq-mul-right, lt-of-lt-of-le, mod-lt, mul-le-mul-right, mul-one, mul-pos, mul-right-comm}
 use native.Mathlib.Omega.{arith}

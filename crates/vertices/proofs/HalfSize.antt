@@ -1,5 +1,5 @@
 -- Laws of `magnitude` and `halfSize`: their values by cases, and that they grow with the bits.
-use mathlib.Core.Path.{_≡_, refl, sym, ap, _∙_}
+use mathlib.Core.Path.{_≡_, sym, ap, _∙_}
 use mathlib.Core.Logic.{_⊎_, inl, inr}
 use Prim.Native.Nat.{ℕ, _+_, _-_, _*_, _/_, _%_, _^_, _≤_, _<_}
 use native.Mathlib.Nat.{add-mul, add-zero, eq-zero-or-pos, le-div-iff-mul-le, le-refl, lt-of-lt-of-le, mod-lt, mul-le-mul-right, mul-left-comm, mul-lt-mul-of-pos-right, mul-mul-mul-comm, pow-succ'}

@@ -5,3 +5,4 @@ pub mod HalfEncode
 pub mod HalfNearest
 pub mod HalfLaws
 pub mod HalfBridge
+pub mod Vectors

@@ -11,8 +11,9 @@ pub fn f16_to_f32(value: u16) -> u32
     let sign = bits / 0x8000 * 0x8000_0000;
     let rest = bits % 0x8000;
     if rest == 0 {
-        sign
-    } else if rest < 0x400 {
+        return sign;
+    }
+    if rest < 0x400 {
         // The leading digit of a subnormal half, moved up to bit 23, adds 1 to the exponent's field.
         let zeros = u32::leading_zeros(rest);
         sign + ((133 - zeros) * 0x80_0000 + (rest << (zeros - 8)))

@@ -1,6 +1,6 @@
 -- Each branch of `f32_to_f16` computes `encoded` of the bits below the sign, by the law of its case.
 use mathlib.Core.Path.{_≡_, _∙_, ap, sym}
-use Prim.Native.Nat.{ℕ, _+_, _-_, _/_, _%_}
+use Prim.Native.Nat.{_+_, _-_, _/_, _%_}
 use native.Mathlib.Nat.{add-zero}
 use native.Mathlib.Omega.{arith}
 use borrow.Author.Needs.{needs}
