@@ -16,17 +16,20 @@ pub f16-is : (h v : ℕ) → decoded (h % 2 ^ 15) ≡ v → h / 32768 * 21474836
 unfolding f16ToF32
 f16-is h v e = ap (λ (n : ℕ). h / 32768 * 2147483648 + n) (sym e)
 
+-- a zero's bits
 pub decoded-zero : (m : ℕ) → m ≡ 0 → decoded m ≡ 0
 unfolding decoded
 decoded-zero m e = simp (eq-eqb m 0 e)
 
+-- a normal half's bits move up by 13 places, and the exponent's field gains 112
 pub decoded-normal : (m : ℕ) → 1024 ≤ m → m < 31744 → decoded m ≡ m * 8192 + 939524096
 unfolding decoded
 decoded-normal m h l = simp (ne-eqb m 0 (λ e. omega arith), le-ltb m 1024 h, lt-ltb m 31744 l) (omega arith)
 
-pub decoded-special : (m : ℕ) → 31744 ≤ m → m < 32768 → decoded m ≡ m * 8192 + 1879048192
+-- an infinity's and a NaN's fraction bits move up by 13 places
+pub decoded-special : (m : ℕ) → 31744 ≤ m → decoded m ≡ m % 1024 * 8192 + 2139095040
 unfolding decoded
-decoded-special m h l =
+decoded-special m h =
     let k : 1024 ≤ m = omega arith in
     simp (ne-eqb m 0 (λ e. omega arith), le-ltb m 1024 k, le-ltb m 31744 h) (omega arith)
 
@@ -48,6 +51,7 @@ normalised-at : (m k j : ℕ) → k ≡ 10 - j → j < 10 → 1024 ≤ m * 2 ^ (
 unfolding normalised
 normalised-at m k j e l lo hi = ap (normalised m) e ∙ omega arith
 
+-- every half between zero and the normal ones has such a digit
 pub subnormal : (m : ℕ) → 0 < m → m < 1024 → Subnormal m
 subnormal m h l =
     let t = leading-top 10 m h l in
@@ -118,4 +122,4 @@ decoded-finite m h =
 
 -- the bits stay below the sign's
 pub decoded-fits : (m : ℕ) → m < 32768 → decoded m < 2147483648
-decoded-fits m h = elim (side 31744 m) [ inr l ↦ omega (arith, decoded-finite m l) | inl g ↦ omega (arith, decoded-special m g h) ]
+decoded-fits m h = elim (side 31744 m) [ inr l ↦ omega (arith, decoded-finite m l) | inl g ↦ omega (arith, decoded-special m g) ]

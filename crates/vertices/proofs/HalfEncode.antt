@@ -15,6 +15,7 @@ pub f32-is : (b v : ℕ) → encoded (b % 2 ^ 31) ≡ v → b / 2147483648 * 327
 unfolding f32ToF16
 f32-is b v e = ap (λ (n : ℕ). b / 2147483648 * 32768 + n) (sym e)
 
+-- a NaN keeps its upper ten fraction bits, with the first of them set
 pub encoded-nan : (m : ℕ) → 2139095040 < m → encoded m ≡ 32256 + m / 8192 % 512
 unfolding encoded
 encoded-nan m h = simp (lt-ltb 2139095040 m h) (omega arith)
@@ -24,6 +25,7 @@ pub encoded-over : (m : ℕ) → 1199570944 ≤ m → m ≤ 2139095040 → encod
 unfolding encoded
 encoded-over m h l = simp (le-ltb 2139095040 m l, le-leb 1199570944 m h)
 
+-- what is rounded to a normal half
 pub encoded-normal : (m : ℕ) → 947912704 ≤ m → m < 1199570944 → encoded m ≡ roundEven (m - 939524096) 8192
 unfolding encoded
 encoded-normal m h l =

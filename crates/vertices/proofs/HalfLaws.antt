@@ -5,8 +5,8 @@ use Prim.Native.Nat.{ℕ, _+_, _*_, _/_, _%_, _^_, _≤_, _<_}
 use native.Mathlib.Omega.{arith}
 use borrow.Author.Tests.{eq-eqb, ne-eqb}
 use Rattle.vertices.specs.Half.{magnitude, decoded, encoded, f16ToF32, f32ToF16}
-use Rattle.vertices.specs.Ieee16.{infinity16, infinity32, halfSize, gap, distance, Decoded, Half, Nearest, Encoded}
-use Rattle.vertices.proofs.HalfSize.{equal-or-not, side}
+use Rattle.vertices.specs.Ieee16.{infinity16, infinity32, halfSize, gap, distance, Decoded, HalfNumber, Nearest, Encoded}
+use Rattle.vertices.proofs.HalfSize.{equal-or-not, magnitude-one, side}
 use Rattle.vertices.proofs.HalfDecode.{decoded-finite, decoded-fits, decoded-same, decoded-special, decoded-zero}
 use Rattle.vertices.proofs.HalfEncode.{encoded-fits, encoded-nan, encoded-none, encoded-over}
 use Rattle.vertices.proofs.HalfNearest.{Closest, encoded-closest, exact, one-closest}
@@ -47,10 +47,24 @@ decodes h w =
       zero = λ e. rest ∙ decoded-zero m e;
       finite = λ l. omega (arith, decoded-finite m l);
       same = λ l. ap (magnitude 23) rest ∙ decoded-same m l;
-      infinite = λ e. omega (arith, decoded-special m (omega arith) (omega arith));
-      nan = λ g. omega (arith, decoded-special m (omega arith) (omega arith));
-      quiet = λ g. omega (arith, decoded-special m (omega arith) (omega arith));
+      infinite = λ e. omega (arith, decoded-special m (omega arith));
+      nan = λ g. omega (arith, decoded-special m (omega arith));
+      quiet = λ g. omega (arith, decoded-special m (omega arith));
     }
+
+-- Exactly one float is what a half decodes to.
+pub one-decoding : (h r s : ℕ) → Decoded h r → Decoded h s → r ≡ s
+one-decoding h r s x y = omega (arith, rest, x .sign, y .sign)
+  where
+    rest : r % 2 ^ 31 ≡ s % 2 ^ 31
+    rest =
+        elim (side infinity16 (h % 2 ^ 15)) [
+          | inr l ↦ magnitude-one 23 (r % 2 ^ 31) (s % 2 ^ 31) (x .same l ∙ sym (y .same l))
+          | inl g ↦ elim (side (h % 2 ^ 15) infinity16) [
+            | inr l ↦ x .nan l ∙ sym (y .nan l)
+            | inl k ↦ let e : h % 2 ^ 15 ≡ infinity16 = omega arith in x .infinite e ∙ sym (y .infinite e)
+          ]
+        ]
 
 -- ---- the nearest of the halves of both signs
 
@@ -102,7 +116,7 @@ module _ (b r : ℕ) (w : b < 2 ^ 32) (z : Nearest b r) where
       let e : signed b k % 2 ^ 15 ≡ k = omega arith in
       same-sign b (signed b k) (omega arith) ∙ ap (λ (n : ℕ). gap (magnitude 23 (b % 2 ^ 31)) (halfSize n)) e
 
-  signed-half : (k : ℕ) → k ≤ 31744 → Half (signed b k)
+  signed-half : (k : ℕ) → k ≤ 31744 → HalfNumber (signed b k)
   unfolding signed
   signed-half k h = record { width = omega arith; number = omega arith }
 
@@ -168,7 +182,7 @@ back m h =
           let f : decoded m ≤ 2139095040 = omega (arith, decoded-finite m l) in
           one-closest (halfSize m) (encoded (decoded m)) m (subst (λ (u : ℕ). Closest u (encoded (decoded m))) (decoded-same m l) (encoded-closest (decoded m) f)) (exact m h)
       | inl g ↦
-          let e : decoded m ≡ 2139095040 = omega (arith, decoded-special m g (omega arith)) in
+          let e : decoded m ≡ 2139095040 = omega (arith, decoded-special m g) in
           encoded-over (decoded m) (omega arith) (omega arith) ∙ omega arith
     ]
 

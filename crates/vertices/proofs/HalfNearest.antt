@@ -142,6 +142,7 @@ not-below u r s a b h =
     let m : r + 1 ≤ 31744 = omega (arith, b .number) in
     between u (halfSize r) (halfSize (r + 1)) (halfSize s) (halfSize-lt r (r + 1) (omega arith)) (halfSize-lt (r + 1) s (omega arith)) e (a .least (r + 1) m)
 
+-- there is one nearest half under a sign
 pub one-closest : (u r s : ℕ) → Closest u r → Closest u s → r ≡ s
 one-closest u r s a b =
     elim (side r s) [

@@ -100,12 +100,22 @@ magnitude-mono p a b h =
 pub magnitude-lt : (p a b : ℕ) → a < b → magnitude p a < magnitude p b
 magnitude-lt p a b h = lt-of-lt-of-le (magnitude-next p a) (magnitude-mono p (a + 1) b (omega arith))
 
+-- floats of one size have the same bits below the sign
+pub magnitude-one : (p a b : ℕ) → magnitude p a ≡ magnitude p b → a ≡ b
+magnitude-one p a b e =
+    elim (side a b) [
+      | inr l ↦ omega (arith, magnitude-lt p b a l)
+      | inl l ↦ elim (side b a) [ inl k ↦ omega arith | inr k ↦ omega (arith, magnitude-lt p a b k) ]
+    ]
+
 -- ---- halves in units of 2^-149
 
+-- a half's size does not fall as its bits grow
 pub halfSize-mono : (a b : ℕ) → a ≤ b → halfSize a ≤ halfSize b
 unfolding halfSize
 halfSize-mono a b h = mul-le-mul-right (2 ^ 125) (magnitude-mono 10 a b h)
 
+-- of two halves under one sign, the one with the larger bits is the larger
 pub halfSize-lt : (a b : ℕ) → a < b → halfSize a < halfSize b
 unfolding halfSize
 halfSize-lt a b h = mul-lt-mul-of-pos-right (magnitude-lt 10 a b h) (pow-pos 125)
@@ -120,11 +130,12 @@ pub halfSize-at : (x t : ℕ) → t < 1024 → halfSize ((x + 1) * 1024 + t) ≡
 unfolding halfSize
 halfSize-at x t h = ap (λ (n : ℕ). n * 2 ^ 125) (magnitude-at 10 x t h) ∙ sym (regroup (1024 + t) x 13 112)
 
--- the step to the next half, from a subnormal one and from a normal one
+-- the step from a subnormal half to the next
 pub halfStep-low : (m : ℕ) → m < 1024 → halfSize (m + 1) ≡ halfSize m + 2 ^ 125
 unfolding halfSize
 halfStep-low m h = ap (λ (n : ℕ). n * 2 ^ 125) (step-low 10 m h) ∙ add-mul (magnitude 10 m) 1 (2 ^ 125)
 
+-- the step from a normal half to the next
 pub halfStep-at : (x t : ℕ) → t < 1024 → halfSize ((x + 1) * 1024 + t + 1) ≡ halfSize ((x + 1) * 1024 + t) + 8192 * 2 ^ (x + 112)
 unfolding halfSize
 halfStep-at x t h =

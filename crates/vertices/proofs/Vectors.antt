@@ -32,6 +32,7 @@ tested (row convert input output ∷ rows) t =
     let ts = both (eqb (convert input) output) (test rows) t in
     (eqb→eq (convert input) output (ts .0), tested rows (ts .1))
 
+-- halves to floats, then floats to halves
 pub vectors : List Row
 vectors =
     row f16ToF32 0x0001 0x33800000

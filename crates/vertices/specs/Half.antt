@@ -21,23 +21,30 @@ floatOf field fraction = field * 2 ^ 23 + fraction * 2 ^ 13
 unfoldable pub normalised : ℕ → ℕ → ℕ
 normalised f k = floatOf (113 - k) (f * 2 ^ k % 2 ^ 10)
 
--- The float's bits for a half's, m, both below the sign: zero; subnormal; normal; infinity and NaN, which keeps its fraction bits
+-- the float's bits for a half's, m, both below the sign
 unfoldable pub decoded : ℕ → ℕ
 unfolding normalised
 decoded m =
+    -- zero
     cond (eqb m 0) 0
+    -- subnormal
     (cond (ltb m (2 ^ 10)) (normalised m (leadingZeros 10 m + 1))
+    -- normal: the exponents' biases are 15 and 127
     (cond (ltb m (31 * 2 ^ 10)) (floatOf (m / 2 ^ 10 + 112) (m % 2 ^ 10))
+    -- infinity and NaN
     (floatOf 255 (m % 2 ^ 10))))
 
--- The half's bits for a float's, m, both below the sign: NaN, with its upper ten fraction bits and 0x200; infinity, and 65,536 and above;
--- normal, with 13 fraction bits fewer, where a carry moves into the exponent's field; subnormal and zero, in whole multiples of 2^-24, which is 2^125 times 2^-149
+-- the half's bits for a float's, m, both below the sign
 unfoldable pub encoded : ℕ → ℕ
 unfolding magnitude roundEven
 encoded m =
+    -- NaN: the upper ten fraction bits, with 0x200 set
     cond (ltb (255 * 2 ^ 23) m) (31 * 2 ^ 10 + (2 ^ 9 + m / 2 ^ 13 % 2 ^ 9))
+    -- infinity, and 2^16 and above
     (cond (leb (143 * 2 ^ 23) m) (31 * 2 ^ 10)
+    -- 2^-14 and above, normal: 13 fraction bits are rounded away, and a carry moves into the exponent's field
     (cond (leb (113 * 2 ^ 23) m) (roundEven (m - 112 * 2 ^ 23) (2 ^ 13))
+    -- subnormal and zero: whole multiples of 2^-24, each 2^125 of the float's units
     (roundEven (magnitude 23 m) (2 ^ 125))))
 
 -- the bits of the float that the half h stands for

@@ -31,23 +31,23 @@ pub record Decoded (h r : ℕ) : Type 0 where
 abbrev pub gap : ℕ → ℕ → ℕ
 gap a c = a - c + (c - a)
 
--- how far the finite float b and the half k lie apart, in units of 2^-149: under one sign the sizes are subtracted, under two added
+-- how far the finite float b and the half k lie apart, in units of 2^-149, an infinite k being 65,536: like signs subtract, unlike ones add
 unfoldable pub distance : ℕ → ℕ → ℕ
 unfolding magnitude halfSize
 distance b k =
     cond (eqb (b / 2 ^ 31) (k / 2 ^ 15)) (gap (magnitude 23 (b % 2 ^ 31)) (halfSize (k % 2 ^ 15)))
     (magnitude 23 (b % 2 ^ 31) + halfSize (k % 2 ^ 15))
 
--- k is a half of either sign, and no NaN
-pub record Half (k : ℕ) : Type 0 where
+-- k is a half of either sign and no NaN: a finite one or an infinity
+pub record HalfNumber (k : ℕ) : Type 0 where
   pub width : k < 2 ^ 16
   pub number : k % 2 ^ 15 ≤ infinity16
 
 -- Of all halves none is nearer to the finite float b than r, and where another is as near, r's last bit is 0.
 pub record Nearest (b r : ℕ) : Type 0 where
-  pub half : Half r
-  pub least : (k : ℕ) → Half k → distance b r ≤ distance b k
-  pub even : (k : ℕ) → Half k → (k ≡ r → ⊥) → distance b k ≡ distance b r → r % 2 ≡ 0
+  pub half : HalfNumber r
+  pub least : (k : ℕ) → HalfNumber k → distance b r ≤ distance b k
+  pub even : (k : ℕ) → HalfNumber k → (k ≡ r → ⊥) → distance b k ≡ distance b r → r % 2 ≡ 0
 
 -- r is the half that the float b is rounded to: with b's sign, the nearest, an infinity for an infinity, a NaN with b's upper ten fraction bits and 0x200
 pub record Encoded (b r : ℕ) : Type 0 where

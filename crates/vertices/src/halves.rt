@@ -14,13 +14,15 @@ pub fn f16_to_f32(value: u16) -> u32
         return sign;
     }
     if rest < 0x400 {
-        // The leading digit of a subnormal half, moved up to bit 23, adds 1 to the exponent's field.
+        // Subnormal: the leading digit, moved up to bit 23, adds 1 to the exponent's field.
         let zeros = u32::leading_zeros(rest);
         sign + ((133 - zeros) * 0x80_0000 + (rest << (zeros - 8)))
     } else if rest < 0x7C00 {
+        // Normal: the exponent's field is 112 more.
         sign + (rest * 0x2000 + 0x3800_0000)
     } else {
-        sign + (rest * 0x2000 + 0x7000_0000)
+        // Infinity and NaN.
+        sign + (rest % 0x400 * 0x2000 + 0x7F80_0000)
     }
 }
 
@@ -47,13 +49,16 @@ pub fn f32_to_f16(bits: u32) -> u16
     let sign = bits / 0x8000_0000 * 0x8000;
     let rest = bits % 0x8000_0000;
     if 0x7F80_0000 < rest {
+        // NaN.
         (sign + (0x7E00 + rest / 0x2000 % 0x200)) as u16
     } else if 0x4780_0000 <= rest {
+        // 65,536 and above, and infinity.
         (sign + 0x7C00) as u16
     } else if 0x3880_0000 <= rest {
+        // 2^-14 and above: a normal half, whose exponent's field is 112 less. A carry moves into it.
         (sign + round_even(rest - 0x3800_0000, 0x2000)) as u16
     } else if 0x3300_0000 <= rest {
-        // A subnormal half counts in steps of 2^-24.
+        // 2^-25 and above: a subnormal half, a whole multiple of 2^-24.
         (sign + round_even(0x80_0000 + rest % 0x80_0000, 1 << (126 - rest / 0x80_0000))) as u16
     } else {
         sign as u16

@@ -32,4 +32,4 @@ f16-to-f32-spec =
     (λ c. search needs)
     (λ c. f16-is (c .before .before .args .value) _ (omega (arith, small c, shifted _ (small c))))
     (λ c. f16-is (c .before .before .before .args .value) _ (decoded-normal _ (omega arith) (c .if3 .taken)))
-    (λ c. f16-is (c .before .before .before .args .value) _ (decoded-special _ (omega arith) (omega arith))))
+    (λ c. f16-is (c .before .before .before .args .value) _ (decoded-special _ (omega arith))))
