@@ -16,8 +16,8 @@ pub Right : List Row → Type 0
 Right [] = Unit {0}
 Right (row convert input output ∷ rows) = (convert input ≡ output) × Right rows
 
--- the same as a test
-abbrev test : List Row → Bool
+-- the same as a test that antt computes
+abbrev pub test : List Row → Bool
 test [] = true
 test (row convert input output ∷ rows) = eqb (convert input) output && test rows
 
@@ -25,7 +25,8 @@ both : (a b : Bool) → T (a && b) → T a × T b
 both true b t = (tt, t)
 both false b t = absurd t
 
-tested : (rows : List Row) → T (test rows) → Right rows
+-- a list that passes the test is right
+pub tested : (rows : List Row) → T (test rows) → Right rows
 unfolding Right
 tested [] t = tt
 tested (row convert input output ∷ rows) t =
