@@ -1,0 +1,54 @@
+-- The test vectors of document 01 (its starred soundings) that speak of single numbers, proved by one computation over the whole list.
+use mathlib.Core.Path.{_≡_}
+use mathlib.Core.Bool.{Bool, true, false, _&&_}
+use mathlib.Core.List.{List, [], _∷_}
+use Prim.Native.Nat.{ℕ}
+use lib.Count.{leadingZeros}
+use lib.Dec.{T, eqb, eqb→eq}
+use Rattle.vertices.specs.Half.{f16ToF32, f32ToF16}
+
+-- a conversion, what it is given, and what it must give
+pub data Row : Type 0 where
+  row : (ℕ → ℕ) → ℕ → ℕ → Row
+
+-- every row gives what it must
+pub Right : List Row → Type 0
+Right [] = Unit {0}
+Right (row convert input output ∷ rows) = (convert input ≡ output) × Right rows
+
+-- the same as a test that antt computes
+abbrev pub test : List Row → Bool
+test [] = true
+test (row convert input output ∷ rows) = eqb (convert input) output && test rows
+
+both : (a b : Bool) → T (a && b) → T a × T b
+both true b t = (tt, t)
+both false b t = absurd t
+
+-- a list that passes the test is right
+pub tested : (rows : List Row) → T (test rows) → Right rows
+unfolding Right
+tested [] t = tt
+tested (row convert input output ∷ rows) t =
+    let ts = both (eqb (convert input) output) (test rows) t in
+    (eqb→eq (convert input) output (ts .0), tested rows (ts .1))
+
+-- halves to floats, then floats to halves
+pub vectors : List Row
+vectors =
+    row f16ToF32 0x0001 0x33800000
+    ∷ row f16ToF32 0x03FF 0x387FC000
+    ∷ row f16ToF32 0x0400 0x38800000
+    ∷ row f16ToF32 0x7C01 0x7F802000
+    ∷ row f32ToF16 0x7F802000 0x7E01
+    ∷ row f32ToF16 0x33000000 0
+    ∷ row f32ToF16 0x33000001 0x0001
+    ∷ row f32ToF16 0x477FEFFF 0x7BFF
+    ∷ row f32ToF16 0x477FF000 0x7C00
+    ∷ row f32ToF16 0x3F801000 0x3C00
+    ∷ []
+
+-- Every vector is right.
+pub vectors-right : Right vectors
+unfolding vectors f16ToF32 f32ToF16 leadingZeros
+vectors-right = tested vectors tt

@@ -1,0 +1,5 @@
+// Vertices: floats and halves as their bits.
+mod halves;
+
+pub use halves::f16_to_f32;
+pub use halves::f32_to_f16;
