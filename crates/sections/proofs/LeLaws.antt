@@ -105,6 +105,17 @@ field-put k s at v h l =
     let whole : at + k ≤ length (overwrite s at (bytes k v)) = rw (overwrite-length s at (bytes k v) fit) l in
     rw (field-in k (overwrite s at (bytes k v)) at whole, part-same s at (bytes k v) fit k n) (le-bytes k v h)
 
+-- a byte is a field of width 1
+pub field-one : (s : List ℕ) (at : ℕ) → at < length s → field 1 s at ≡ getD s at 0
+field-one s at h = field-in 1 s at (omega arith) ∙ le-one s at h
+
+-- one store
+pub one-store : (s : List ℕ) (at v : ℕ) → at < length s → v < 256 → set s at v ≡ overwrite s at (bytes 1 v)
+unfolding bytes
+one-store s at v h l =
+    let e : v % 256 ≡ v = omega arith in
+    rw e (overwrite-one s at v h)
+
 -- two stores
 pub two-stores : (s : List ℕ) (at v : ℕ) → at + 2 ≤ length s → v < 65536 → set (set s at (v % 256)) (at + 1) (v / 256) ≡ overwrite s at (bytes 2 v)
 unfolding bytes

@@ -7,6 +7,16 @@ ghost use Rattle.sections.specs.Edit.{part, overwrite, fits, Edited};
 ghost use Rattle.sections.specs.Le.{le, bytes, field};
 use crate::range::ends_inside;
 
+// One byte, as a field of width 1.
+pub fn u8_le(b: &[u8], off: usize) -> u8
+    ensures { λ r. ⌜ r ≡ field 1 (now (b .entry)) off ⌝ }
+{
+    if off < b.len() {
+        return b[off];
+    }
+    0
+}
+
 pub fn u16_le(b: &[u8], off: usize) -> u16
     ensures { λ r. ⌜ r ≡ field 2 (now (b .entry)) off ⌝ }
 {
@@ -32,6 +42,16 @@ pub fn u64_le(b: &[u8], off: usize) -> u64
         return u64_at(b, off);
     }
     0
+}
+
+pub fn put_u8_le(b: &mut [u8], off: usize, v: u8) -> bool
+    ensures { λ r. ⌜ Edited (fits (now (b .entry)) off 1) (now (b .entry)) off (bytes 1 v) r (now (b .exit)) ⌝ }
+{
+    if off < b.len() {
+        b[off] = v;
+        return true;
+    }
+    false
 }
 
 pub fn put_u16_le(b: &mut [u8], off: usize, v: u16) -> bool
