@@ -1,0 +1,18 @@
+-- `snorm_colour8` meets its contract: bits that are no NaN's are read as their float, and a NaN gives 0 as the definition does.
+use borrow.Author.Needs.{needs}
+use lib.Ieee.{ofBits, add, mul}
+use Rattle.vertices.specs.Normalised.{snormColour8}
+use Rattle.vertices.proofs.FloatNan.{not-nan-bits, nan-value}
+use Rattle.vertices.proofs.NormalisedColour.{colour-nan}
+use Rattle.vertices.proofs.normalised.snorm_colour8.Statement.{statement}
+use Rattle.vertices.proofs.normalised.snorm_colour8.Tie as tie
+
+pub snorm-colour8-spec : {M : Type 1} → statement M
+unfolding ofBits add mul snormColour8
+snorm-colour8-spec =
+    tie.close
+    (tie.spec
+    (λ c. rw (nan-value (c .before .args .bits) (search needs)) colour-nan)
+    (λ c. not-nan-bits (c .before .args .bits) (search needs))
+    (λ c κs. search needs)
+    (λ c. c .colour-byte .ensures))
