@@ -1,10 +1,10 @@
 -- Cutting a float that lies between -1 and 256 to a byte. Assumes nothing.
 use mathlib.Core.Path.{_≡_, refl}
 use mathlib.Core.Bool.{true, false}
-use Prim.Native.Nat.{ℕ, _+_, _*_, _/_, _^_, _<_, min}
+use Prim.Native.Nat.{_+_, _*_, _/_, _^_, _<_}
 use native.Mathlib.Nat.{div-lt-iff-lt-mul}
 use native.Mathlib.Omega.{arith}
-use lib.IntN.{ℤ, pos, negsuc}
+use lib.IntN.{pos}
 use lib.Dec.{T, ltb→lt, lt→ltb}
 use lib.Ieee.{Float, nan, inf, fin, up, down, lt, toUnsigned}
 use lib.Ieee.Fits.{down-pos}

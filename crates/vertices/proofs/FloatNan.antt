@@ -1,22 +1,21 @@
 -- Which bits are a NaN's, and which results are none. Assumes nothing.
-use mathlib.Core.Path.{_≡_, refl, sym, subst, _∙_}
+use mathlib.Core.Path.{_≡_, refl, sym, subst}
 use mathlib.Core.Bool.{Bool, false, true, not, cond}
-use Prim.Native.Nat.{ℕ, suc, _*_, _%_, _≤_, _<_}
+use Prim.Native.Nat.{ℕ, suc, _*_}
 use lib.IntN.{ℤ, pos, negsuc}
-use lib.Dec.{T, eqb, lt→ltb}
-use lib.Arith.{le→nltb}
+use lib.Dec.{T, eqb}
 use lib.Ieee.{Float, nan, inf, fin, Format, binary32, up, down, unlike, round, mul, div, ofInt, ofBits, isNan, nanBits}
-use lib.Ieee.Bits.{nanBits-is, nanBits-above, cond-no}
+use lib.Ieee.Bits.{nanBits-is, cond-no}
 use Rattle.vertices.specs.Normalised.{number}
 use Rattle.vertices.proofs.FloatRounding.{round-not-nan}
 
--- bits up to those of infinity, the sign left out, are no NaN's
-pub not-nan-bits : (b : ℕ) → b % 2147483648 ≤ 2139095040 → T (not (nanBits binary32 b))
-not-nan-bits b h = subst (λ (t : Bool). T (not t)) (sym (nanBits-above binary32 b)) (le→nltb 2139095040 (b % 2147483648) h)
+-- the test that bits are no NaN's, as reading them as a float asks for it
+pub not-nan-bits : (b : ℕ) → nanBits binary32 b ≡ false → T (not (nanBits binary32 b))
+not-nan-bits b h = rw h tt
 
--- and so their float is no NaN
-pub not-nan : (b : ℕ) → b % 2147483648 ≤ 2139095040 → T (not (isNan (ofBits binary32 b)))
-not-nan b h = subst (λ (t : Bool). T (not t)) (nanBits-is binary32 b) (not-nan-bits b h)
+-- bits that are no NaN's stand for no NaN
+pub not-nan : (b : ℕ) → nanBits binary32 b ≡ false → T (not (isNan (ofBits binary32 b)))
+not-nan b h = rw (← nanBits-is binary32 b, h) tt
 
 is-nan : (x : Float) → T (isNan x) → x ≡ nan
 unfolding isNan
@@ -24,11 +23,9 @@ is-nan nan h = refl
 is-nan (inf s) h = absurd h
 is-nan (fin s m e) h = absurd h
 
--- the float of all other bits is the NaN
-pub nan-value : (b : ℕ) → 2139095040 < b % 2147483648 → ofBits binary32 b ≡ nan
-nan-value b h =
-    is-nan (ofBits binary32 b)
-    (subst T (sym (nanBits-above binary32 b) ∙ nanBits-is binary32 b) (lt→ltb 2139095040 (b % 2147483648) h))
+-- a NaN's bits stand for the NaN
+pub nan-value : (b : ℕ) → nanBits binary32 b ≡ true → ofBits binary32 b ≡ nan
+nan-value b h = is-nan (ofBits binary32 b) (rw (← nanBits-is binary32 b, h) tt)
 
 -- an integer as a float is no NaN
 pub ofInt-not-nan : (f : Format) (z : ℤ) → T (not (isNan (ofInt f z)))

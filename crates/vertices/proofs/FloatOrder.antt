@@ -5,7 +5,6 @@ use mathlib.Core.Bool.{Bool, true, false, not, _&&_, _||_}
 use Prim.Native.Nat.{ℕ, _+_, _*_, _≤_, _<_}
 use native.Mathlib.Nat.{mul-one, mul-pos, mul-lt-mul-of-pos-right, lt-of-le-of-lt}
 use native.Mathlib.Omega.{arith}
-use lib.IntN.{ℤ, pos, negsuc}
 use lib.Dec.{T, ltb, eqb, ltb→lt, lt→ltb, eqb→eq}
 use lib.Ieee.{Float, nan, inf, fin, up, down, lt, le, isNan}
 use lib.Ieee.Fits.{down-pos, and-l}

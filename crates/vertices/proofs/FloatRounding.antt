@@ -1,13 +1,13 @@
 -- What `round` gives, whatever it rounds: no NaN, the sign that it is told, and zero for zero. Assumes nothing.
-use mathlib.Core.Path.{_≡_, refl, ap, sym, _∙_}
+use mathlib.Core.Path.{_≡_, refl, sym, _∙_}
 use mathlib.Core.Bool.{Bool, true, false, not, cond}
-use Prim.Native.Nat.{ℕ, zero, suc, _+_, _*_, _/_, _^_, _<_, min}
+use Prim.Native.Nat.{ℕ, zero, suc, _+_, _*_, _/_, _^_, _<_}
 use native.Mathlib.Nat.{zero-mul, zero-div, eq-of-mul-eq-mul-right}
 use native.Mathlib.Omega.{arith}
 use lib.Pow.{pow-pos}
-use lib.IntN.{ℤ, pos, negsuc}
+use lib.IntN.{ℤ, pos}
 use lib.Dec.{T, ltb, lt→ltb}
-use lib.Ieee.{Float, nan, inf, fin, Format, binary32, prec, emax, low, up, down, odd, units, round, neg, lt, isNan, ofInt, toUnsigned}
+use lib.Ieee.{Float, nan, inf, fin, Format, binary32, prec, emax, low, up, down, odd, units, round, neg, lt, isNan, toUnsigned}
 use lib.Ieee.Exact.{HasValue, round-exact}
 use lib.Ieee.Fits.{down-pos}
 use Rattle.vertices.specs.Normalised.{negative}

@@ -1,8 +1,11 @@
 pub mod AllBelow
-pub mod FloatRounding
+pub mod FloatCut
 pub mod FloatNan
 pub mod FloatOrder
-pub mod FloatCut
+pub mod FloatRounding
 pub mod NormalisedClamp
 pub mod NormalisedColour
+pub mod NormalisedFits
+pub mod NormalisedRoundTrip
 pub mod NormalisedSigned
+pub mod NormalisedVectors

@@ -1,14 +1,11 @@
 -- What `colour_byte` returns on each of its ways. Assumes nothing.
 use mathlib.Core.Path.{_≡_, refl, sym, ap, subst, _∙_}
-use mathlib.Core.Logic.{_⊎_, inl, inr}
-use mathlib.Core.Bool.{Bool, true, false, not}
-use Prim.Native.Nat.{ℕ, _+_, _*_, _≤_, _<_}
-use native.Mathlib.Nat.{mul-comm, mul-one, mul-le-mul-right, le-trans, le-of-eq}
+use mathlib.Core.Bool.{Bool, true, false}
+use Prim.Native.Nat.{ℕ, _+_, _*_, _≤_}
 use native.Mathlib.Omega.{arith}
 use lib.Pow.{pow-pos}
-use lib.IntN.{ℤ, pos, negsuc}
 use lib.Dec.{T}
-use lib.Ieee.{Float, nan, inf, fin, binary32, up, down, unlike, round, mul, lt, le, isNan, toUnsigned}
+use lib.Ieee.{Float, nan, inf, fin, binary32, up, down, round, mul, lt, le, toUnsigned}
 use lib.Ieee.Fits.{down-pos}
 use lib.Ieee.Order.{round-mono}
 use borrow.Author.Tests.{ltb-false}

@@ -1,12 +1,12 @@
 -- Signed normalised bytes: what each way of `signed_byte`, `snorm8_to_f32` and `f32_to_snorm8` returns. Assumes nothing.
-use mathlib.Core.Path.{_≡_, refl, sym, ap, subst, _∙_}
-use mathlib.Core.Bool.{Bool, true, false, not}
-use Prim.Native.Nat.{ℕ, zero, suc, _+_, _-_, _*_, _/_, _%_, _^_, _≤_, _<_, min}
+use mathlib.Core.Path.{_≡_, sym, ap, subst}
+use mathlib.Core.Bool.{true, false, not}
+use Prim.Native.Nat.{ℕ, zero, suc, _+_, _-_, _*_, _/_, _%_, _≤_, _<_, min}
 use native.Mathlib.Nat.{mul-comm, div-le-of-le-mul, zero-div}
 use native.Mathlib.Omega.{arith}
-use lib.IntN.{ℤ, pos, negsuc, negℤ}
+use lib.IntN.{ℤ, pos, negℤ}
 use lib.Dec.{T, ltb}
-use lib.Ieee.{Float, nan, inf, fin, binary32, up, down, neg, mul, div, lt, isNan, ofInt, ofBits, toBits, toUnsigned, toSigned}
+use lib.Ieee.{Float, nan, inf, fin, binary32, up, down, neg, mul, div, lt, isNan, nanBits, ofInt, ofBits, toBits, toUnsigned, toSigned}
 use borrow.Author.Tests.{lt-ltb, le-ltb, ltb-true, ltb-false}
 use Rattle.vertices.specs.Normalised.{number, negative, signedByte, byteOf, atLeast, clamp, snorm8ToF32, f32ToSnorm8}
 use Rattle.vertices.proofs.FloatRounding.{round-neg}
@@ -18,11 +18,12 @@ use Rattle.vertices.proofs.NormalisedClamp.{clamp-below, clamp-above, c
 
 -- a byte below 128 is its own signed number
 pub signed-low : (b : ℕ) → b < 128 → ofInt binary32 (pos b) ≡ ofInt binary32 (signedByte b)
+unfolding signedByte
 signed-low b h = rw (lt-ltb b 128 h)
 
 -- a byte from 128 on is what it lacks to 256, below zero
 pub signed-high : (b : ℕ) → 128 ≤ b → b < 256 → neg (ofInt binary32 (pos (256 - b))) ≡ ofInt binary32 (signedByte b)
-unfolding ofInt
+unfolding ofInt signedByte
 signed-high b l h =
     let more : 256 - b ≡ suc (255 - b) = omega arith in
     rw (le-ltb b 128 l, more) (round-neg binary32 (suc (255 - b)) 1)
@@ -42,7 +43,7 @@ module _ (b : ℕ) (x : Float) (signed : x ≡ ofInt binary32 (signedByte b)) wh
 
 module _ (bits : ℕ) where
   -- a NaN gives 0
-  pub snorm-nan : 2139095040 < bits % 2147483648 → 0 ≡ f32ToSnorm8 bits
+  pub snorm-nan : nanBits binary32 bits ≡ true → 0 ≡ f32ToSnorm8 bits
   unfolding f32ToSnorm8 clamp lt mul toSigned
   snorm-nan h = rw (nan-value bits h)
 

@@ -1,6 +1,6 @@
 -- Normalised bytes and colours of document 01, over the values and the rounded operations of `lib.Ieee`. A float is given and returned as its bits.
 use Prim.Native.Nat.{ℕ, _-_}
-use mathlib.Core.Bool.{Bool, true, false, cond}
+use mathlib.Core.Bool.{true, false, cond}
 use lib.IntN.{ℤ, pos, negsuc}
 use lib.Dec.{ltb}
 use lib.Ieee.{Float, fin, binary32, add, mul, div, lt, ofInt, ofBits, toBits, toUnsigned, toSigned}
@@ -18,7 +18,7 @@ abbrev pub half : Float
 half = fin false 1 (negsuc 0)
 
 -- a byte as a signed number, in two's complement
-abbrev pub signedByte : ℕ → ℤ
+unfoldable pub signedByte : ℕ → ℤ
 signedByte b = cond (ltb b 128) (pos b) (negsuc (255 - b))
 
 -- the byte of a signed number

@@ -1,14 +1,20 @@
 // Normalised bytes and colours: a byte as a float and a float as a byte. A float is its bits here, and `f32` only between.
 ghost use mathlib.Core.Path.{_≡_};
 ghost use lib.Dec.{T};
-ghost use lib.IntN.{pos};
-ghost use lib.Ieee.{binary32, lt, ofInt, toUnsigned};
+ghost use lib.Ieee.{binary32, lt, nanBits, ofInt, toUnsigned};
 ghost use Rattle.vertices.specs.Normalised.{number, negative, signedByte, snorm8ToF32, unorm8ToF32, f32ToSnorm8, colourByte, f32ToUnorm8, snormColour8};
 
-// Bits above those of infinity, the sign left out, are a NaN's. `f32::from_bits` is not defined at them.
+// The bits of infinity. What is above them, the sign left out, is a NaN's.
 const INFINITY: u32 = 0x7F80_0000;
 
 const SIGN: u32 = 0x8000_0000;
+
+// Whether the bits are a NaN's, at which `f32::from_bits` is not defined.
+fn is_nan(bits: u32) -> bool
+    ensures { λ r. ⌜ r ≡ nanBits binary32 bits ⌝ }
+{
+    INFINITY < bits % SIGN
+}
 
 // A byte as the signed number that it stands for in two's complement.
 fn signed_byte(value: u8) -> f32
@@ -51,7 +57,7 @@ fn truncating_f32_to_u8(value: f32) -> u8
 pub fn f32_to_snorm8(bits: u32) -> u8
     ensures { λ r. ⌜ r ≡ f32ToSnorm8 bits ⌝ }
 {
-    if INFINITY < bits % SIGN {
+    if is_nan(bits) {
         return 0;
     }
     let product = f32::from_bits(bits) * 127.0;
@@ -84,7 +90,7 @@ fn colour_byte(value: f32) -> u8
 pub fn f32_to_unorm8(bits: u32) -> u8
     ensures { λ r. ⌜ r ≡ f32ToUnorm8 bits ⌝ }
 {
-    if INFINITY < bits % SIGN {
+    if is_nan(bits) {
         return 0;
     }
     colour_byte(f32::from_bits(bits))
@@ -94,7 +100,7 @@ pub fn f32_to_unorm8(bits: u32) -> u8
 pub fn snorm_colour8(bits: u32) -> u8
     ensures { λ r. ⌜ r ≡ snormColour8 bits ⌝ }
 {
-    if INFINITY < bits % SIGN {
+    if is_nan(bits) {
         return 0;
     }
     colour_byte(f32::from_bits(bits) * 0.5 + 0.5)

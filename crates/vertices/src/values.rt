@@ -41,7 +41,7 @@ impl Vec3 {
 
 impl Vec4 {
     pub fn xyz(self) -> Vec3
-        ensures { λ r. ⌜ (r .x ≡ self .x) × (r .y ≡ self .y) × (r .z ≡ self .z) ⌝ }
+        ensures { λ r. ⌜ r ≡ record { x = self .x; y = self .y; z = self .z } ⌝ }
     {
         let x = self.x;
         let y = self.y;

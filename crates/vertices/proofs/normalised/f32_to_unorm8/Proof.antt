@@ -11,7 +11,8 @@ unfolding f32ToUnorm8
 f32-to-unorm8-spec =
     tie.close
     (tie.spec
-    (λ c. rw (nan-value (c .before .args .bits) (search needs)) colour-nan)
-    (λ c. not-nan-bits (c .before .args .bits) (search needs))
+    (λ c κs. search needs)
+    (λ c. rw (nan-value (c .before .before .args .bits) (cc)) colour-nan)
+    (λ c. not-nan-bits (c .before .before .args .bits) (cc))
     (λ c κs. search needs)
     (λ c. c .colour-byte .ensures))

@@ -1,6 +1,5 @@
 -- `snorm8_to_f32` meets its contract: the code divides and tests as the definition does, and the quotient of a byte by 127 is no NaN.
 use borrow.Author.Needs.{needs}
-use mathlib.Core.Path.{_≡_}
 use lib.Ieee.{binary32, ofBits, neg, isNan}
 use Rattle.vertices.proofs.FloatNan.{ofInt-not-nan, div-not-nan}
 use Rattle.vertices.proofs.NormalisedSigned.{snorm-below, snorm-inside}

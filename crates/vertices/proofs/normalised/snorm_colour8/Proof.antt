@@ -1,4 +1,4 @@
--- `snorm_colour8` meets its contract: bits that are no NaN's are read as their float, and a NaN gives 0 as the definition does.
+-- `snorm_colour8` meets its contract: a NaN gives 0, other bits are read as their float, and the sum of a number's half and 0.5 is no NaN, though `colour_byte` takes any float.
 use borrow.Author.Needs.{needs}
 use lib.Ieee.{ofBits, add, mul}
 use Rattle.vertices.specs.Normalised.{snormColour8}
@@ -12,7 +12,8 @@ unfolding ofBits add mul snormColour8
 snorm-colour8-spec =
     tie.close
     (tie.spec
-    (λ c. rw (nan-value (c .before .args .bits) (search needs)) colour-nan)
-    (λ c. not-nan-bits (c .before .args .bits) (search needs))
+    (λ c κs. search needs)
+    (λ c. rw (nan-value (c .before .before .args .bits) (cc)) colour-nan)
+    (λ c. not-nan-bits (c .before .before .args .bits) (cc))
     (λ c κs. search needs)
     (λ c. c .colour-byte .ensures))

@@ -1,7 +1,5 @@
 -- `truncating_f32_to_u8` meets its contract: what lies between -1 and 256 is cut to the same number in 64 bits as in 8.
-use borrow.Author.Needs.{needs}
 use mathlib.Core.Path.{_∙_}
-use native.Mathlib.Omega.{arith}
 use lib.Ieee.Casts.{toUnsigned-lt}
 use Rattle.vertices.proofs.FloatCut.{below-wider, cut-same}
 use Rattle.vertices.proofs.normalised.truncating_f32_to_u8.Statement.{statement}
