@@ -21,14 +21,10 @@ module _ (there back expected : ℕ → ℕ) where
   unfolding returns
   returns-at t b h = eqb→eq (back (there b)) (expected b) (each returns 256 t b h)
 
--- -128 comes back as -127, and every other byte as itself
-abbrev pub snormReturned : ℕ → ℕ
-snormReturned b = cond (eqb b 128) 129 b
-
 -- a signed byte, decoded and encoded, comes back, but for 128, which comes back as 129
-pub snorm-round-trip : (b : ℕ) → b < 256 → f32ToSnorm8 (snorm8ToF32 b) ≡ snormReturned b
+pub snorm-round-trip : (b : ℕ) → b < 256 → f32ToSnorm8 (snorm8ToF32 b) ≡ cond (eqb b 128) 129 b
 unfolding returns snorm8ToF32 signedByte atLeast f32ToSnorm8 clamp mul div lt ofInt ofBits toBits toSigned
-snorm-round-trip = returns-at snorm8ToF32 f32ToSnorm8 snormReturned tt
+snorm-round-trip = returns-at snorm8ToF32 f32ToSnorm8 (λ b. cond (eqb b 128) 129 b) tt
 
 -- an unsigned byte, decoded and encoded, comes back
 pub unorm-round-trip : (b : ℕ) → b < 256 → f32ToUnorm8 (unorm8ToF32 b) ≡ b

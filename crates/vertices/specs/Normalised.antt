@@ -5,11 +5,11 @@ use lib.IntN.{ℤ, pos, negsuc}
 use lib.Dec.{ltb}
 use lib.Ieee.{Float, fin, binary32, add, mul, div, lt, ofInt, ofBits, toBits, toUnsigned, toSigned}
 
--- a whole number as a float
+-- the whole number n as a float
 abbrev pub number : ℕ → Float
 number n = fin false n (pos 0)
 
--- a whole number below zero as a float
+-- the whole number -n as a float
 abbrev pub negative : ℕ → Float
 negative n = fin true n (pos 0)
 

@@ -7,6 +7,7 @@ ghost use Rattle.vertices.specs.Normalised.{number, negative, signedByte
 // The bits of infinity. What is above them, the sign left out, is a NaN's.
 const INFINITY: u32 = 0x7F80_0000;
 
+// The sign's bit.
 const SIGN: u32 = 0x8000_0000;
 
 // Whether the bits are a NaN's, at which `f32::from_bits` is not defined.

@@ -40,6 +40,7 @@ impl Vec3 {
 }
 
 impl Vec4 {
+    // The first three, without w.
     pub fn xyz(self) -> Vec3
         ensures { λ r. ⌜ r ≡ record { x = self .x; y = self .y; z = self .z } ⌝ }
     {

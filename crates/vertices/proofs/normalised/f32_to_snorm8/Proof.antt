@@ -20,6 +20,14 @@ above c =
       to = c .before .if3 .left;
     }
 
+negated : tie.Need-returns-4
+unfolding ofBits neg
+negated c =
+    byte-below-zero _ _ _ (c .before .before .if4 .taken) (below (c .before .before)) (c .before .truncating-f32-to-u8 .ensures)
+    (search needs)
+    (c .wrapping-sub-u8 .ensures)
+    ∙ cut-inside _ (c .before .before .before .before .if2 .left) (c .before .before .before .if3 .left)
+
 pub f32-to-snorm8-spec : {M : Type 1} → statement M
 unfolding ofBits neg
 f32-to-snorm8-spec =
@@ -32,8 +40,6 @@ f32-to-snorm8-spec =
     (λ c. cut-above _ (c .before .if2 .left) (c .if3 .taken))
     (λ c κs. magnitude-in-byte _ (below c))
     (λ c κs. search needs)
-    (λ c.
-    byte-below-zero _ _ _ (c .before .before .if4 .taken) (below (c .before .before)) (c .before .truncating-f32-to-u8 .ensures) (search needs) (c .wrapping-sub-u8 .ensures)
-    ∙ cut-inside _ (c .before .before .before .before .if2 .left) (c .before .before .before .if3 .left))
+    negated
     (λ c κs. magnitude-in-byte _ (above c))
     (λ c. c .truncating-f32-to-u82 .ensures ∙ byte-from-zero _ (above (c .before)) ∙ cut-inside _ (c .before .before .before .if2 .left) (c .before .before .if3 .left)))

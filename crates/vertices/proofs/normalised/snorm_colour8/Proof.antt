@@ -1,4 +1,4 @@
--- `snorm_colour8` meets its contract: a NaN gives 0, other bits are read as their float, and the sum of a number's half and 0.5 is no NaN, though `colour_byte` takes any float.
+-- `snorm_colour8` meets its contract: a NaN gives 0, any other bits go through the definition's two operations, in which an infinity stays one, and `colour_byte` takes every float.
 use borrow.Author.Needs.{needs}
 use lib.Ieee.{ofBits, add, mul}
 use Rattle.vertices.specs.Normalised.{snormColour8}
