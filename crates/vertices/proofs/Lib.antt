@@ -6,3 +6,14 @@ pub mod HalfNearest
 pub mod HalfLaws
 pub mod HalfBridge
 pub mod Vectors
+pub mod AllBelow
+pub mod FloatCut
+pub mod FloatNan
+pub mod FloatOrder
+pub mod FloatRounding
+pub mod NormalisedClamp
+pub mod NormalisedColour
+pub mod NormalisedFits
+pub mod NormalisedRoundTrip
+pub mod NormalisedSigned
+pub mod NormalisedVectors
