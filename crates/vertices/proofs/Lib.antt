@@ -16,4 +16,3 @@ pub mod NormalisedColour
 pub mod NormalisedFits
 pub mod NormalisedRoundTrip
 pub mod NormalisedSigned
-pub mod NormalisedVectors

@@ -5,7 +5,9 @@ use mathlib.Core.List.{List, [], _∷_}
 use Prim.Native.Nat.{ℕ}
 use lib.Count.{leadingZeros}
 use lib.Dec.{T, eqb, eqb→eq}
+use lib.Ieee.{div, lt, ofInt, toBits}
 use Rattle.vertices.specs.Half.{f16ToF32, f32ToF16}
+use Rattle.vertices.specs.Normalised.{signedByte, atLeast, snorm8ToF32}
 
 -- a conversion, what it is given, and what it must give
 pub data Row : Type 0 where
@@ -33,7 +35,7 @@ tested (row convert input output ∷ rows) t =
     let ts = both (eqb (convert input) output) (test rows) t in
     (eqb→eq (convert input) output (ts .0), tested rows (ts .1))
 
--- halves to floats, then floats to halves
+-- halves to floats, floats to halves, signed normalised bytes to floats
 pub vectors : List Row
 vectors =
     row f16ToF32 0x0001 0x33800000
@@ -46,9 +48,11 @@ vectors =
     ∷ row f32ToF16 0x477FEFFF 0x7BFF
     ∷ row f32ToF16 0x477FF000 0x7C00
     ∷ row f32ToF16 0x3F801000 0x3C00
+    ∷ row snorm8ToF32 0x80 0xBF800000
+    ∷ row snorm8ToF32 0x81 0xBF800000
     ∷ []
 
 -- Every vector is right.
 pub vectors-right : Right vectors
-unfolding vectors f16ToF32 f32ToF16 leadingZeros
+unfolding vectors f16ToF32 f32ToF16 leadingZeros snorm8ToF32 signedByte atLeast div lt ofInt toBits
 vectors-right = tested vectors tt
