@@ -114,8 +114,9 @@ def list_rows():
         for width in [2, 4, 8]:
             for base, size in [(SYSTEM, system), (GRAPHICS, graphics)]:
                 fits = size // width
+                # as many as end inside, one more, and as many as take 2^32 bytes
                 for at in [0, 1, size - width, size - width + 1, size, size + 1]:
-                    for count in sorted({0, 1, (size - at) // width if at < size else 0, fits, fits + 1, (1 << 32) - 1}):
+                    for count in sorted({0, 1, (size - at) // width if at < size else 0, fits, fits + 1, (1 << 32) // width, (1 << 32) - 1}):
                         list_row(sections, base + at, count, width)
             for va in [0, 1, 0x40000000, (1 << 32) + SYSTEM]:
                 for count in [0, 1]:

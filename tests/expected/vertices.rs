@@ -6,7 +6,7 @@
 //     halves.bin        for each half, the float's bits (u32)
 //     neighbours.bin    for each half, the halves (u16) of six floats near it (`near`)
 //     half_colours.bin  for each half, the three bytes (`colours`) of its float
-//     floats.bin        200,000 pseudo-random float bits (u32), each with its half (u16)
+//     floats.bin        float bits (u32), each with its half (u16): the ends of each case of rounding, and 200,000 pseudo-random ones
 //     colours.bin       float bits (u32), each with its three bytes: the steps between bytes, NaNs, infinities and others
 //     snorm.bin         for each byte, the bits of the signed normalised float (u32)
 //     unorm.bin         for each byte, the bits of the unsigned normalised float (u32)
@@ -131,6 +131,23 @@ impl Random {
     }
 }
 
+// Around the ends of each case of rounding: 2^-25, 2^-24, 2^-14, 65,504, 65,520, 65,536, infinity and a quiet NaN. Then
+// pseudo-random ones, every other one where a half is finite or nearly so.
+fn float_inputs(random: &mut Random) -> Vec<u32> {
+    let mut inputs = Vec::new();
+    for end in [0, 0x3300_0000, 0x3380_0000, 0x3880_0000, 0x477F_E000, 0x477F_F000, 0x4780_0000, 0x7F80_0000, 0x7FC0_0000] {
+        for step in 0..7u32 {
+            let bits = u32::wrapping_add(end, step).wrapping_sub(3);
+            inputs.push(bits);
+            inputs.push(bits ^ 0x8000_0000);
+        }
+    }
+    for i in 0..200_000 {
+        inputs.push(if i % 2 == 0 { random.next() as u32 } else { random.float(0x64, 0x2E) });
+    }
+    inputs
+}
+
 // Floats at which a colour or a snorm byte changes, with their neighbours, and floats that are special.
 fn colour_inputs(random: &mut Random) -> Vec<u32> {
     let mut around = vec![0.0f32, -0.0, 0.5, -0.5, 1.0, -1.0, 2.0, -2.0, 127.0, 255.0, -128.0, 256.0, f32::MIN_POSITIVE, f32::MAX, f32::MIN];
@@ -179,14 +196,8 @@ fn main() {
     write("neighbours", all.clone().flat_map(near).flat_map(|bits| float_to_half(f32::from_bits(bits)).to_le_bytes()).collect(), 2);
     write("half_colours", all.clone().flat_map(|h| colours(half_to_float(h).to_bits())).collect(), 3);
 
-    // Half of them anywhere, half where a half is finite or nearly so.
-    let mut floats = Vec::new();
-    for i in 0..200_000 {
-        let bits = if i % 2 == 0 { random.next() as u32 } else { random.float(0x64, 0x2E) };
-        floats.extend(bits.to_le_bytes());
-        floats.extend(float_to_half(f32::from_bits(bits)).to_le_bytes());
-    }
-    write("floats", floats, 6);
+    let floats = float_inputs(&mut random);
+    write("floats", floats.iter().flat_map(|&bits| [&bits.to_le_bytes()[..], &float_to_half(f32::from_bits(bits)).to_le_bytes()[..]].concat()).collect(), 6);
 
     let inputs = colour_inputs(&mut random);
     write("colours", inputs.iter().flat_map(|&bits| [&bits.to_le_bytes()[..], &colours(bits)[..]].concat()).collect(), 7);
