@@ -24,7 +24,7 @@ pub fn section(seed: u8) -> [u8; 64]
     b
 }
 
-// A section with two zeros at an offset.
+// A section with two zeros at an offset, if they fit.
 pub fn section_with_gap(seed: u8, at: usize) -> [u8; 64]
     ensures { λ r. ⌜ length r ≡ 64 ⌝ }
 {

@@ -1,8 +1,6 @@
-// Rows about addresses. A row's first two numbers are the sizes of the two sections, at most 64.
+// Rows about addresses in two sections.
 use crate::Row;
 use crate::buffers::checksum;
-use crate::buffers::first;
-use crate::buffers::section;
 use crate::print::number;
 use crate::print::text;
 use sections::Located;
@@ -38,17 +36,10 @@ pub fn numbers(row: Row, count: u8) {
 }
 
 // locate, at address c, of d bytes.
-pub fn locate_row(row: Row) {
-    let system = section(129);
-    let graphics = section(65);
+pub fn locate_row<'a>(system: &'a [u8], graphics: &'a [u8], row: Row) {
     text(b"locate");
     numbers(row, 4);
-    place(sections::locate(
-        first(&system, row.a as usize),
-        first(&graphics, row.b as usize),
-        row.c,
-        row.d as usize,
-    ));
+    place(sections::locate(system, graphics, row.c, row.d as usize));
     text(b"\n");
 }
 
@@ -61,17 +52,10 @@ fn slice(b: &[u8]) {
 }
 
 // resolve, at address c, of d bytes.
-pub fn resolve_row(row: Row) {
-    let system = section(129);
-    let graphics = section(65);
+pub fn resolve_row<'a>(system: &'a [u8], graphics: &'a [u8], row: Row) {
     text(b"resolve");
     numbers(row, 4);
-    slice(sections::resolve(
-        first(&system, row.a as usize),
-        first(&graphics, row.b as usize),
-        row.c,
-        row.d as usize,
-    ));
+    slice(sections::resolve(system, graphics, row.c, row.d as usize));
 }
 
 fn place_of(which: u64, at: usize) -> Located {
@@ -85,30 +69,18 @@ fn place_of(which: u64, at: usize) -> Located {
 }
 
 // bytes_of, at offset d of the system section (c = 0), of the graphics section (1) or of none, of e bytes.
-pub fn bytes_of_row(row: Row) {
-    let system = section(129);
-    let graphics = section(65);
+pub fn bytes_of_row<'a>(system: &'a [u8], graphics: &'a [u8], row: Row) {
     let p = place_of(row.c, row.d as usize);
     text(b"bytes_of");
     numbers(row, 5);
-    slice(sections::bytes_of(
-        first(&system, row.a as usize),
-        first(&graphics, row.b as usize),
-        p,
-        row.e as usize,
-    ));
+    slice(sections::bytes_of(system, graphics, p, row.e as usize));
 }
 
 // within_limit. Only its yes is tried here: a section of more than 67,108,864 bytes does not fit on a program's stack.
-pub fn within_limit_row(row: Row) {
-    let system = section(129);
-    let graphics = section(65);
+pub fn within_limit_row<'a>(system: &'a [u8], graphics: &'a [u8], row: Row) {
     text(b"within_limit");
     numbers(row, 2);
-    if sections::within_limit(
-        first(&system, row.a as usize),
-        first(&graphics, row.b as usize),
-    ) {
+    if sections::within_limit(system, graphics) {
         text(b" yes\n");
     } else {
         text(b" no\n");

@@ -7,6 +7,8 @@ mod lists;
 mod lookup;
 mod print;
 
+use buffers::first;
+use buffers::section_with_gap;
 use libc::STDIN_FILENO;
 
 // What is called, and the numbers that it is called with.
@@ -19,15 +21,34 @@ pub struct Row {
     pub e: u64,
 }
 
+fn run_on_sections<'a>(system: &'a [u8], graphics: &'a [u8], row: Row) {
+    let kind = row.kind;
+    match kind {
+        0 => lookup::locate_row(system, graphics, row),
+        1 => lookup::resolve_row(system, graphics, row),
+        2 => lookup::bytes_of_row(system, graphics, row),
+        3 => lookup::within_limit_row(system, graphics, row),
+        4 => lists::locate_list_row(system, graphics, row),
+        _ => lists::header_row(system, graphics, row),
+    }
+}
+
+// Two sections of the sizes a and b, at most 64. A row about a header has two zeros in them.
+fn run_with_sections(row: Row) {
+    let gap = if row.kind == 5 { row.d as usize } else { 64 };
+    let system = section_with_gap(129, gap);
+    let graphics = section_with_gap(65, gap);
+    run_on_sections(
+        first(&system, row.a as usize),
+        first(&graphics, row.b as usize),
+        row,
+    );
+}
+
 fn run(row: Row) {
     let kind = row.kind;
     match kind {
-        0 => lookup::locate_row(row),
-        1 => lookup::resolve_row(row),
-        2 => lookup::bytes_of_row(row),
-        3 => lookup::within_limit_row(row),
-        4 => lists::locate_list_row(row),
-        5 => lists::header_row(row),
+        0..=5 => run_with_sections(row),
         6 => fields::read_row(row),
         7 => fields::write_row(row),
         8 => edits::copy_within_row(row),
