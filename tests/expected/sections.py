@@ -74,6 +74,7 @@ def locate_and_resolve(system, graphics, va, count):
 
 
 def address_rows():
+    """An address at 0x70000000 is in graphics, at an offset beyond any section within the limit: its rows say nothing either way."""
     bases = [0, 1, 0x50000000, 0x5FFFFFFF, 0x60000000, 0x70000000, 0x40000000, 0x30000000]
     highs = [0, 1 << 31, 1 << 32, 0xFFFFFFFF << 32, 1 << 63]
     for high in highs:
