@@ -1,5 +1,5 @@
 // What one record of a file asks: an input, the Rust's answer and the library's.
-ghost use Prim.Native.Nat.{_≤_, _<_};
+ghost use Prim.Native.Nat.{_<_};
 
 // What a file holds. A file without inputs has one record for each half or byte, in order.
 pub enum Kind {

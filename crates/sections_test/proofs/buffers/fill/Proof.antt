@@ -1,6 +1,6 @@
 -- The index is below 65,536, so that no product wraps, and a store keeps the length.
 use Prim.Native.Nat.{_-_}
-use mathlib.Core.Path.{_≡_, refl, _∙_}
+use mathlib.Core.Path.{_≡_, refl}
 use native.Mathlib.Omega.{arith}
 use lib.ListN.{length, length-set}
 use Rattle.sections_test.proofs.buffers.fill.Statement.{statement}
