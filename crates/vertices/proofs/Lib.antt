@@ -7,3 +7,5 @@ pub mod HalfLaws
 pub mod HalfBridge
 pub mod Vectors
 pub mod TypeLaws
+pub mod DeclarationLaws
+pub mod ComponentLaws

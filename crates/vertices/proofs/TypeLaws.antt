@@ -1,6 +1,6 @@
 -- Laws of component types and semantics.
 use mathlib.Core.Path.{_≡_, refl, sym, ap, _∙_}
-use mathlib.Core.List.{List, [], _∷_, map}
+use mathlib.Core.List.{List, [], _∷_}
 use Prim.Native.Nat.{ℕ, zero, suc, _+_, _≤_}
 use native.Mathlib.Nat.{zero-add}
 use native.Mathlib.Omega.{arith}
@@ -35,7 +35,7 @@ numbers-at (suc k) m (suc n) =
 
 -- a type keeps the nibble that it was made of
 pub type-nibble : (n : ℕ) → nibbleOf (componentType n) ≡ n
-unfolding componentType numbers map
+unfolding componentType numbers
 type-nibble n = sym (List·getD-map nibbleOf namedTypes n (Unknown n)) ∙ (rw zero-add at (numbers-at 11 0 n))
 
 -- a type has at most 16 bytes

@@ -2,7 +2,7 @@
 use mathlib.Core.Bool.{Bool, cond}
 use mathlib.Core.List.{List, [], _∷_, _++_}
 use mathlib.Core.Option.{Option, none, some}
-use Prim.Native.Nat.{ℕ, zero, suc, _+_, _*_, _/_, _%_, _-_}
+use Prim.Native.Nat.{ℕ, zero, suc, _+_, _*_, _/_, _%_, _-_, _^_, _<_}
 use lib.Dec.{eqb}
 use lib.ListN.{length, replicate}
 use Rattle.sections.specs.Le.{field, bytes}
@@ -19,14 +19,22 @@ use Rattle.vertices.specs.declared.declaration.FoundComponent.the-varian
 
 -- flags u32, stride u16, unknown u8, count u8, types u64
 unfoldable pub declarationAt : List ℕ → ℕ → VertexDeclaration
-declarationAt s at = record { flags = field 4 s at; stride = field 2 s (at + 4); unknown_6h = field 1 s (at + 6); count = field 1 s (at + 7); types = field 8 s (at + 8) }
+declarationAt s at = record { flags = field 4 s at; stride = field 2 s (at + 4); «unknown_6h» = field 1 s (at + 6); count = field 1 s (at + 7); types = field 8 s (at + 8) }
 
 unfoldable pub declarationBytes : VertexDeclaration → List ℕ
-declarationBytes d = bytes 4 (d .flags) ++ bytes 2 (d .stride) ++ bytes 1 (d .unknown_6h) ++ bytes 1 (d .count) ++ bytes 8 (d .types)
+declarationBytes d = bytes 4 (d .flags) ++ bytes 2 (d .stride) ++ bytes 1 (d .«unknown_6h») ++ bytes 1 (d .count) ++ bytes 8 (d .types)
+
+-- each number fits its width
+pub record InWidth (d : VertexDeclaration) : Type 0 where
+  pub flags : d .flags < 256 ^ 4
+  pub stride : d .stride < 256 ^ 2
+  pub unknown : d .«unknown_6h» < 256
+  pub count : d .count < 256
+  pub types : d .types < 256 ^ 8
 
 -- where a resource stores none: one Float3, the position
 abbrev pub positionOnly : ℕ → VertexDeclaration
-positionOnly stride = record { flags = 1; stride = stride; unknown_6h = 0; count = 1; types = 6 }
+positionOnly stride = record { flags = 1; stride = stride; «unknown_6h» = 0; count = 1; types = 6 }
 
 -- ---- components
 
@@ -36,7 +44,7 @@ odd flags = eqb (flags % 2) 1
 
 -- the component of the flag `index`, whose type has this nibble
 abbrev pub componentAt : ℕ → ℕ → ℕ → VertexComponent
-componentAt index nibble offset = record { semantic = semanticOf index; semantic_index = index; component_type = componentType nibble; offset = offset; size = sizeOf (componentType nibble); component_count = countOf (componentType nibble) }
+componentAt index nibble offset = record { semantic = semanticOf index; «semantic_index» = index; «component_type» = componentType nibble; offset = offset; size = sizeOf (componentType nibble); «component_count» = countOf (componentType nibble) }
 
 -- of the k flags from `index` on, which are the lowest of `flags`: a component for each that is set, the first at `offset`
 unfoldable pub componentsFrom : ℕ → ℕ → ℕ → ℕ → ℕ → List VertexComponent
@@ -52,7 +60,7 @@ componentsOf d = componentsFrom 16 0 (d .flags) (d .types) 0
 
 -- what fills an array of components up
 abbrev pub emptyComponent : VertexComponent
-emptyComponent = record { semantic = Position; semantic_index = 0; component_type = Nothing; offset = 0; size = 0; component_count = 0 }
+emptyComponent = record { semantic = Position; «semantic_index» = 0; «component_type» = Nothing; offset = 0; size = 0; «component_count» = 0 }
 
 -- components as an array of 16 and a count
 unfoldable pub componentList : List VertexComponent → ComponentList
@@ -69,7 +77,7 @@ totalSize d = sizes (componentsOf d)
 -- the first component with a semantic's number
 unfoldable pub withIndex : ℕ → List VertexComponent → Option VertexComponent
 withIndex index [] = none
-withIndex index (c ∷ cs) = cond (eqb (c .semantic_index) index) (some c) (withIndex index cs)
+withIndex index (c ∷ cs) = cond (eqb (c .«semantic_index») index) (some c) (withIndex index cs)
 
 unfoldable pub componentOf : VertexDeclaration → ℕ → Option VertexComponent
 componentOf d index = withIndex index (componentsOf d)
