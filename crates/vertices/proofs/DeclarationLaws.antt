@@ -1,8 +1,8 @@
 -- The 16 bytes of a declaration: written by five puts, read back, and written again as they were read.
 use mathlib.Core.Path.{_≡_, refl, sym, ap, _∙_}
-use mathlib.Core.Bool.{Bool}
+use mathlib.Core.Bool.{Bool, true, false, cond}
 use mathlib.Core.List.{List, [], _∷_, _++_}
-use Prim.Native.Nat.{ℕ, zero, suc, _+_, _*_, _/_, _%_, _^_, _≤_, _<_}
+use Prim.Native.Nat.{ℕ, zero, suc, _+_, _*_, _-_, _/_, _%_, _^_, _≤_, _<_}
 use native.Mathlib.Nat.{add-assoc, add-zero, zero-add}
 use native.Mathlib.Omega.{arith}
 use lib.Dec.{lit<}
@@ -12,7 +12,7 @@ use Rattle.sections.specs.Edit.{part, overwrite, fits, Edited}
 use Rattle.sections.specs.Le.{le, bytes, field}
 use Rattle.sections.proofs.EditLaws.{edited-fits, overwrite-all, overwrite-length, overwrite-then, part-add, part-getD, part-length, part-part, part-same}
 use Rattle.sections.proofs.LeLaws.{bytes-le, field-in, field-out, le-bytes, length-bytes}
-use Rattle.vertices.specs.Declaration.{declarationAt, declarationBytes, InWidth}
+use Rattle.vertices.specs.Declaration.{declarationAt, declarationBytes, idFrom, InWidth, odd}
 use Rattle.vertices.specs.declared.declaration.VertexDeclaration.{VertexDeclaration}
 
 -- ---- writing
@@ -79,3 +79,22 @@ unfolding declarationAt declarationBytes
 declaration-written-back s at f h =
     let b : (k i : ℕ) → i + k ≤ 16 → bytes k (field k s (at + i)) ≡ part s (at + i) k = λ k i l. field-bytes k s (at + i) f (omega arith) in
     rw (field-bytes 4 s at f (omega arith), b 2 4 (omega arith), b 1 6 (omega arith), b 1 7 (omega arith), b 8 8 (omega arith), ← part-add s at 4 2, ← part-add s at 6 1, ← part-add s at 7 1, ← part-add s at 8 8)
+
+-- ---- the id
+
+-- of k flags: the lowest, and 16 times that of the others
+pub id-next : (k flags types : ℕ) → 0 < k → idFrom k flags types ≡ cond (odd flags) (types % 16) 0 + 16 * idFrom (k - 1) (flags / 2) (types / 16)
+unfolding idFrom
+id-next k flags types h =
+    let n : k ≡ suc (k - 1) = omega arith in
+    ap (λ (m : ℕ). idFrom m flags types) n
+
+cond-bound : (b : Bool) (x : ℕ) → cond b x 0 ≤ x
+cond-bound true x = omega arith
+cond-bound false x = omega arith
+
+-- an id is at most the types
+pub id-bound : (k flags types : ℕ) → idFrom k flags types ≤ types
+unfolding idFrom
+id-bound zero flags types = omega arith
+id-bound (suc k) flags types = omega (arith, id-bound k (flags / 2) (types / 16), cond-bound (odd flags) (types % 16))

@@ -1,3 +1,8 @@
+use mathlib.Core.Path.{_∙_, sym}
+use native.Mathlib.Omega.{arith}
+use borrow.Author.Tests.{eq-eqb, ne-eqb}
+use Rattle.vertices.specs.Declaration.{idFrom}
+use Rattle.vertices.proofs.DeclarationLaws.{id-next, id-bound}
 use Prim.Native.Nat.{ℕ, _<_}
 use borrow.Fn.Kinds.{In}
 use borrow.Fn.PlainCycle.{Measures, is, falls, and}
@@ -19,13 +24,14 @@ id-from-below t = and 0 id-from-kinds.ps (falls 0 id-from-kinds.ps _<_ μ-id-fro
 -- src/declaration.rt:133:9
 id-from-returns :
     (t : ℕ) → id-from-lts.Need-returns (id-from-below t, id-from.Post) (id-from-at t) id-from.Post
-id-from-returns t c = ?
+unfolding idFrom
+id-from-returns t c = rw (c .if1 .taken)
 
 -- src/declaration.rt:135:29
 id-from-sub-id-from :
     (t : ℕ) →
     id-from-lts.Need-sub-id-from (id-from-below t, id-from.Post) (id-from-at t) id-from.Post
-id-from-sub-id-from t c = ?
+id-from-sub-id-from t c = omega arith
 
 -- src/declaration.rt:135:21
 id-from-id-from-requires : (t : ℕ) → id-from-lts.Need-id-from-requires (

@@ -1,4 +1,7 @@
-use Prim.Native.Nat.{_-_}
+use mathlib.Core.Logic.{⊎-elim}
+use Rattle.vertices.proofs.ComponentLaws.{component-small}
+use Rattle.vertices.specs.Declaration.{componentOf, componentsOf}
+use Prim.Native.Nat.{_-_, _%_}
 use native.Mathlib.Omega.{arith}
 use borrow.Author.Needs.{needs}
 use Rattle.vertices.proofs.ComponentLaws.{Searching, searching-start, searching-hit, searching-set, searching-clear, searching-end}
@@ -32,15 +35,16 @@ cast-if2 c = omega arith
 
 -- src/declaration.rt:116:21
 returns : tie.Need-returns Inv-loop μ-loop
-returns c = ?
+unfolding componentOf componentsOf
+returns c = rw (searching-hit (c .before .before .before .before .loop .inv) (c .before .before .before .loop-test .taken) (c .before .before .if1 .taken) (c .if2 .taken)) (cc)
 
 -- src/declaration.rt:118:27
 cast-offset : tie.Need-cast-offset Inv-loop μ-loop
-cast-offset c = ?
+cast-offset c = omega (arith, component-small (c .before .before .before .before .before .loop .types % 16) (c .before .before .component-at .ensures))
 
 -- src/declaration.rt:118:17
 add-offset : tie.Need-add-offset Inv-loop μ-loop
-add-offset c = ?
+add-offset c = omega (arith, component-small (c .before .before .before .before .before .loop .types % 16) (c .before .before .component-at .ensures))
 
 -- src/declaration.rt:120:13
 add-at : tie.Need-add-at Inv-loop μ-loop
@@ -52,11 +56,16 @@ loop-less c = omega arith
 
 -- src/declaration.rt:112:9
 loop-again : tie.Need-loop-again Inv-loop μ-loop
-loop-again c = ?
+loop-again c =
+    ⊎-elim
+    (λ w. searching-set (c .before .before .loop .inv) (c .before .loop-test .taken) (w .0 .taken) (w .1 .ensures) (w .2 .left) (w .4))
+    (λ w. searching-clear (c .before .before .loop .inv) (c .before .loop-test .taken) (w .0 .left) (w .1))
+    (c .if1 .came)
 
 -- src/declaration.rt:105:5
 returns-2 : tie.Need-returns-2 Inv-loop μ-loop
-returns-2 c = ?
+unfolding componentOf componentsOf
+returns-2 c = rw (searching-end (c .before .loop .inv) (c .loop-test .left))
 
 pub component-spec : {M : Type 1} → statement M
 component-spec =
