@@ -1,139 +1,135 @@
--- Components: the walk over the flags, and where each component lies.
-use mathlib.Core.Path.{_≡_, refl, sym, ap, _∙_}
+-- Laws of components: how many there are, where each lies, and which one a semantic's number finds.
+use mathlib.Core.Path.{_≡_, refl, sym, ap, subst, _∙_}
 use mathlib.Core.Bool.{Bool, true, false, cond}
-use mathlib.Core.List.{List, [], _∷_, _++_, append-nil}
+use mathlib.Core.List.{List, [], _∷_}
+use mathlib.Core.Logic.{_⊎_, ⊎-elim}
 use mathlib.Core.Option.{Option, none, some}
-use Prim.Native.Nat.{ℕ, zero, suc, _+_, _*_, _-_, _/_, _%_, _^_, _≤_, _<_}
-use native.Mathlib.Nat.{add-assoc, add-zero, zero-add}
-use native.Mathlib.Numerals.{add-one}
+use Prim.Native.Nat.{ℕ, zero, suc, _+_, _*_, _/_, _%_, _^_, _≤_, _<_}
+use native.Mathlib.Nat.{div-div-eq-div-mul, div-one, eq-zero-or-pos, pow-succ', pow-zero}
 use native.Mathlib.Omega.{arith}
-use borrow.Author.Tests.{eq-eqb, ne-eqb}
-use lib.ListN.{length, getD, take, drop, set, replicate, length-append, length-set, take-append-drop}
-use lib.Seq.{append-snoc, drop-drop, drop-set-lt, length-take-le, take-suc-set}
+use borrow.Author.Tests.{eq-eqb, ne-eqb, eqb-true}
+use lib.ListN.{length, getD, take}
 use Rattle.vertices.specs.Types.{componentType, sizeOf}
-use Rattle.vertices.specs.Declaration.{componentAt, componentsFrom, componentsOf, componentList, emptyComponent, sizes, totalSize, withIndex, componentOf, idFrom}
+use Rattle.vertices.specs.Declaration.{componentAt, componentOf, componentsFrom, componentsOf, emptyComponent, odd, sizes, totalSize, withIndex}
 use Rattle.vertices.specs.declared.types.VertexComponent.{VertexComponent}
 use Rattle.vertices.specs.declared.declaration.VertexDeclaration.{VertexDeclaration}
-use Rattle.vertices.specs.declared.declaration.ComponentList.{ComponentList}
 use Rattle.vertices.proofs.TypeLaws.{size-bound}
 
--- ---- the walk
+-- ---- by the walk over the flags
 
-module _ (index flags types offset : ℕ) (low : index < 16) where
-  -- at a set flag: its component, then the later ones
-  pub components-set : flags % 2 ≡ 1 → componentsFrom (16 - index) index flags types offset
-      ≡ componentAt index (types % 16) offset ∷ componentsFrom (16 - (index + 1)) (index + 1) (flags / 2) (types / 16) (offset + sizeOf (componentType (types % 16)))
+-- the walk over k + 1 flags, by whether the lowest is set
+module _ (k index flags types offset : ℕ) where
+  from-set : odd flags ≡ true → componentsFrom (suc k) index flags types offset
+      ≡ componentAt index (types % 16) offset ∷ componentsFrom k (index + 1) (flags / 2) (types / 16) (offset + sizeOf (componentType (types % 16)))
   unfolding componentsFrom
-  components-set e =
-      let n : 16 - index ≡ suc (16 - (index + 1)) = omega arith in
-      rw (n, eq-eqb (flags % 2) 1 e)
+  from-set e = rw e
 
-  -- at a flag that is not set: the later ones
-  pub components-clear : (flags % 2 ≡ 1 → ⊥) → componentsFrom (16 - index) index flags types offset ≡ componentsFrom (16 - (index + 1)) (index + 1) (flags / 2) (types / 16) offset
+  from-clear : odd flags ≡ false → componentsFrom (suc k) index flags types offset ≡ componentsFrom k (index + 1) (flags / 2) (types / 16) offset
   unfolding componentsFrom
-  components-clear e =
-      let n : 16 - index ≡ suc (16 - (index + 1)) = omega arith in
-      rw (n, ne-eqb (flags % 2) 1 e)
+  from-clear e = rw e
 
--- past the last flag: none
-pub components-end : (index flags types offset : ℕ) → 16 ≤ index → componentsFrom (16 - index) index flags types offset ≡ []
+-- a Bool is true or false
+side : (b : Bool) → (b ≡ true) ⊎ (b ≡ false)
+side true = _⊎_.inl refl
+side false = _⊎_.inr refl
+
+-- at most one component for each flag, of at most 16 bytes
+few-from : (k index flags types offset : ℕ) → length (componentsFrom k index flags types offset) ≤ k
 unfolding componentsFrom
-components-end index flags types offset h =
-    let n : 16 - index ≡ 0 = omega arith in
-    rw n
+few-from zero index flags types offset = omega arith
+few-from (suc k) index flags types offset =
+    ⊎-elim
+    (λ e. rw (from-set k index flags types offset e) (omega (arith, few-from k (index + 1) (flags / 2) (types / 16) (offset + sizeOf (componentType (types % 16))))))
+    (λ e. rw (from-clear k index flags types offset e) (omega (arith, few-from k (index + 1) (flags / 2) (types / 16) offset)))
+    (side (odd flags))
 
--- a component has at most 16 bytes
-pub component-small : (nibble : ℕ) {index offset : ℕ} {c : VertexComponent} → c ≡ componentAt index nibble offset → c .size ≤ 16
-component-small nibble e = rw e (size-bound (componentType nibble))
+small-from : (k index flags types offset : ℕ) → sizes (componentsFrom k index flags types offset) ≤ 16 * k
+unfolding componentsFrom sizes
+small-from zero index flags types offset = omega arith
+small-from (suc k) index flags types offset =
+    ⊎-elim
+    (λ e. rw (from-set k index flags types offset e) (omega (arith, size-bound (componentType (types % 16)), small-from k (index + 1) (flags / 2) (types / 16) (offset + sizeOf (componentType (types % 16))))))
+    (λ e. rw (from-clear k index flags types offset e) (omega (arith, small-from k (index + 1) (flags / 2) (types / 16) offset)))
+    (side (odd flags))
 
--- the offset behind a component, by the component
-next-offset : (nibble offset : ℕ) {index next : ℕ} {c : VertexComponent} → c ≡ componentAt index nibble offset → next ≡ offset + c .size → next ≡ offset + sizeOf (componentType nibble)
-next-offset nibble offset e h = h ∙ ap (λ (x : VertexComponent). offset + x .size) e
+-- components that lie one behind the other, the first at `offset`
+abbrev pub Consecutive : ℕ → List VertexComponent → Type 0
+Consecutive offset [] = Unit
+Consecutive offset (c ∷ cs) = (c .offset ≡ offset) × Consecutive (offset + c .size) cs
 
--- ---- finding one
+consecutive-from : (k index flags types offset : ℕ) → Consecutive offset (componentsFrom k index flags types offset)
+unfolding componentsFrom
+consecutive-from zero index flags types offset = tt
+consecutive-from (suc k) index flags types offset =
+    ⊎-elim
+    (λ e. rw (from-set k index flags types offset e) (refl, consecutive-from k (index + 1) (flags / 2) (types / 16) (offset + sizeOf (componentType (types % 16)))))
+    (λ e. rw (from-clear k index flags types offset e) (consecutive-from k (index + 1) (flags / 2) (types / 16) offset))
+    (side (odd flags))
 
--- from this place on the walk finds what it finds from the start
-pub record Searching (wanted flags₀ types₀ index flags types offset : ℕ) : Type 0 where
-  pub same : withIndex wanted (componentsFrom (16 - index) index flags types offset) ≡ withIndex wanted (componentsFrom 16 0 flags₀ types₀ 0)
-  pub bound : index ≤ 16
-  pub room : offset ≤ 16 * index
+-- ---- of consecutive components
 
-pub searching-start : (wanted flags types : ℕ) → Searching wanted flags types 0 flags types 0
-searching-start wanted flags types = record { same = refl; bound = omega arith; room = omega arith }
+-- the i-th one's offset is the first's and the sizes before it
+offset-at : (offset : ℕ) (cs : List VertexComponent) → Consecutive offset cs → (i : ℕ) → i < length cs → (getD cs i emptyComponent) .offset ≡ offset + sizes (take i cs)
+unfolding sizes
+offset-at offset [] f i h = absurd (omega arith)
+offset-at offset (c ∷ cs) f zero h = f .0 ∙ omega arith
+offset-at offset (c ∷ cs) f (suc i) h = offset-at (offset + c .size) cs (f .1) i (omega arith) ∙ omega arith
 
-module _ {wanted flags₀ types₀ index flags types offset : ℕ} (s : Searching wanted flags₀ types₀ index flags types offset) where
-  pub searching-hit : index < 16 → flags % 2 ≡ 1 → index ≡ wanted
-      → withIndex wanted (componentsFrom 16 0 flags₀ types₀ 0) ≡ some (componentAt index (types % 16) offset)
-  unfolding withIndex
-  searching-hit low e h = sym (s .same) ∙ rw (components-set index flags types offset low e, eq-eqb index wanted h)
+-- each ends within all of them
+within : (offset : ℕ) (cs : List VertexComponent) → Consecutive offset cs → (i : ℕ) → i < length cs
+    → (getD cs i emptyComponent) .offset + (getD cs i emptyComponent) .size ≤ offset + sizes cs
+unfolding sizes
+within offset [] f i h = absurd (omega arith)
+within offset (c ∷ cs) f zero h = omega (arith, f .0)
+within offset (c ∷ cs) f (suc i) h = omega (arith, within (offset + c .size) cs (f .1) i (omega arith))
 
-  pub searching-set : {c : VertexComponent} {next : ℕ} → index < 16 → flags % 2 ≡ 1 → c ≡ componentAt index (types % 16) offset → (index ≡ wanted → ⊥) → next ≡ offset + c .size
-      → Searching wanted flags₀ types₀ (index + 1) (flags / 2) (types / 16) next
-  unfolding withIndex
-  searching-set low e is h n =
-      let q = next-offset (types % 16) offset is n in
-      record {
-        same = rw q (rw (components-set index flags types offset low e, ne-eqb index wanted h) at (s .same));
-        bound = omega arith;
-        room = omega (arith, component-small (types % 16) is, s .room)
-      }
+-- where each that has a size ends by n, they all do
+by-each : (n offset : ℕ) (cs : List VertexComponent) → Consecutive offset cs
+    → ((i : ℕ) → i < length cs → 0 < (getD cs i emptyComponent) .size → (getD cs i emptyComponent) .offset + (getD cs i emptyComponent) .size ≤ n)
+    → 0 < sizes cs → offset + sizes cs ≤ n
+unfolding sizes
+by-each n offset [] f g p = absurd (omega arith)
+by-each n offset (c ∷ cs) f g p =
+    ⊎-elim
+    (λ z. omega (arith, f .0, g 0 (omega arith) (omega arith)))
+    (λ q. omega (arith, by-each n (offset + c .size) cs (f .1) (λ i h s. g (suc i) (omega arith) s) q))
+    (eq-zero-or-pos (sizes cs))
 
-  pub searching-clear : {next : ℕ} → index < 16 → (flags % 2 ≡ 1 → ⊥) → next ≡ offset → Searching wanted flags₀ types₀ (index + 1) (flags / 2) (types / 16) next
-  searching-clear low e n = record {
-    same = rw n (rw (components-clear index flags types offset low e) at (s .same));
-    bound = omega arith;
-    room = omega (arith, s .room)
-  }
+-- ---- of a declaration
 
-  pub searching-end : 16 ≤ index → withIndex wanted (componentsFrom 16 0 flags₀ types₀ 0) ≡ none
-  unfolding withIndex
-  searching-end h = sym (s .same) ∙ rw (components-end index flags types offset h)
+module _ (d : VertexDeclaration) where
+  -- at most 16 components
+  pub components-few : length (componentsOf d) ≤ 16
+  unfolding componentsOf
+  components-few = few-from 16 0 (d .flags) (d .types) 0
 
--- ---- filling an array
+  -- of at most 256 bytes
+  pub total-bound : totalSize d ≤ 256
+  unfolding componentsOf totalSize
+  total-bound = small-from 16 0 (d .flags) (d .types) 0
 
--- the first `count` items and the components still to come are all of them; the other items are empty
-pub record Filling (all items : List VertexComponent) (count index flags types offset : ℕ) : Type 0 where
-  pub whole : take count items ++ componentsFrom (16 - index) index flags types offset ≡ all
-  pub rest : drop count items ≡ replicate (16 - count) emptyComponent
-  pub same : length items ≡ 16
-  pub few : count ≤ index
-  pub bound : index ≤ 16
-  pub room : offset ≤ 16 * index
+  -- they lie one behind the other from 0 on
+  pub components-consecutive : Consecutive 0 (componentsOf d)
+  unfolding componentsOf
+  components-consecutive = consecutive-from 16 0 (d .flags) (d .types) 0
 
-pub filling-start : (flags types : ℕ) {c : VertexComponent} → c ≡ emptyComponent → Filling (componentsFrom 16 0 flags types 0) (replicate 16 c) 0 0 flags types 0
-filling-start flags types e = record { whole = refl; rest = rw e; same = refl; few = omega arith; bound = omega arith; room = omega arith }
+  -- a component's offset is the sum of the sizes before it
+  pub component-offset : (i : ℕ) → i < length (componentsOf d) → (getD (componentsOf d) i emptyComponent) .offset ≡ sizes (take i (componentsOf d))
+  component-offset i h = offset-at 0 (componentsOf d) components-consecutive i h ∙ omega arith
 
-module _ {all items : List VertexComponent} {count index flags types offset : ℕ} (f : Filling all items count index flags types offset) where
-  pub filling-set : {c : VertexComponent} {items′ : List VertexComponent} {count′ next : ℕ} → index < 16 → flags % 2 ≡ 1 → c ≡ componentAt index (types % 16) offset → items′ ≡ set items count c
-      → count′ ≡ count + 1 → next ≡ offset + c .size → Filling all items′ count′ (index + 1) (flags / 2) (types / 16) next
-  filling-set {c} low e is i n o =
-      let q = next-offset (types % 16) offset is o in
-      let l : count < length items = omega (arith, f .few, f .same) in
-      let m : 16 - count ≡ suc (16 - (count + 1)) = omega arith in
-      let w = rw (components-set index flags types offset low e, ← is) at (f .whole) in
-      record {
-        whole = rw (i, n, q, add-one count, take-suc-set items count c l, append-snoc) w;
-        rest = rw (i, n, drop-set-lt (count + 1) items count c (omega arith), ← drop-drop 1 count items, f .rest, m);
-        same = rw (i, length-set) (f .same);
-        few = omega (arith, f .few);
-        bound = omega arith;
-        room = omega (arith, component-small (types % 16) is, f .room)
-      }
+  -- a component ends within the total
+  pub component-within : (i : ℕ) → i < length (componentsOf d) → (getD (componentsOf d) i emptyComponent) .offset + (getD (componentsOf d) i emptyComponent) .size ≤ totalSize d
+  unfolding totalSize
+  component-within i h = omega (arith, within 0 (componentsOf d) components-consecutive i h)
 
-  pub filling-clear : {items′ : List VertexComponent} {count′ next : ℕ} → index < 16 → (flags % 2 ≡ 1 → ⊥) → items′ ≡ items → count′ ≡ count → next ≡ offset
-      → Filling all items′ count′ (index + 1) (flags / 2) (types / 16) next
-  filling-clear low e i n o = record {
-    whole = rw (i, n, o) (rw (components-clear index flags types offset low e) at (f .whole));
-    rest = rw (i, n) (f .rest);
-    same = rw i (f .same);
-    few = omega (arith, f .few);
-    bound = omega arith;
-    room = omega (arith, f .room)
-  }
+  -- where the total is at most n, each component ends by n
+  pub total-inside : (n : ℕ) → totalSize d ≤ n → (i : ℕ) → i < length (componentsOf d) → (getD (componentsOf d) i emptyComponent) .offset + (getD (componentsOf d) i emptyComponent) .size ≤ n
+  total-inside n t i h = omega (arith, component-within i h)
 
-  pub filling-end : 16 ≤ index → _≡_ {A = ComponentList} (record { items = items; count = count }) (componentList all)
-  unfolding componentList
-  filling-end h =
-      let t : take count items ≡ all = sym (append-nil (take count items)) ∙ rw (components-end index flags types offset h) at (f .whole) in
-      let n : length all ≡ count = sym (ap length t) ∙ length-take-le count items (omega (arith, f .few, f .same, f .bound)) in
-      rw (n, ← t, ← f .rest, take-append-drop)
+  -- where each component of nonzero size ends by n, the total is at most n
+  pub inside-total : (n : ℕ)
+      → ((i : ℕ) → i < length (componentsOf d) → 0 < (getD (componentsOf d) i emptyComponent) .size → (getD (componentsOf d) i emptyComponent) .offset + (getD (componentsOf d) i emptyComponent) .size ≤ n)
+      → totalSize d ≤ n
+  unfolding totalSize
+  inside-total n g =
+      ⊎-elim (λ z. omega arith) (λ p. omega (arith, by-each n 0 (componentsOf d) components-consecutive g p)) (eq-zero-or-pos (sizes (componentsOf d)))

@@ -82,6 +82,11 @@ declaration-written-back s at f h =
 
 -- ---- the id
 
+-- of no flags
+pub id-none : (flags types : ℕ) → idFrom 0 flags types ≡ 0
+unfolding idFrom
+id-none flags types = refl
+
 -- of k flags: the lowest, and 16 times that of the others
 pub id-next : (k flags types : ℕ) → 0 < k → idFrom k flags types ≡ cond (odd flags) (types % 16) 0 + 16 * idFrom (k - 1) (flags / 2) (types / 16)
 unfolding idFrom

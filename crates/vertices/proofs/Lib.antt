@@ -8,4 +8,5 @@ pub mod HalfBridge
 pub mod Vectors
 pub mod TypeLaws
 pub mod DeclarationLaws
+pub mod ComponentWalk
 pub mod ComponentLaws

@@ -1,10 +1,10 @@
 use mathlib.Core.Logic.{⊎-elim}
-use Rattle.vertices.proofs.ComponentLaws.{component-small}
+use Rattle.vertices.proofs.ComponentWalk.{component-small}
 use Rattle.vertices.specs.Declaration.{componentOf, componentsOf}
 use Prim.Native.Nat.{_-_, _%_}
 use native.Mathlib.Omega.{arith}
 use borrow.Author.Needs.{needs}
-use Rattle.vertices.proofs.ComponentLaws.{Searching, searching-start, searching-hit, searching-set, searching-clear, searching-end}
+use Rattle.vertices.proofs.ComponentWalk.{Searching, searching-start, searching-hit, searching-set, searching-clear, searching-end}
 use Rattle.vertices.proofs.declaration.VertexDeclaration.component.Statement.{statement}
 use Rattle.vertices.proofs.declaration.VertexDeclaration.component.Tie as tie
 use Rattle.vertices.proofs.declaration.VertexDeclaration.component.Reads as reads

@@ -3,7 +3,7 @@ use Prim.Native.Nat.{_-_, _%_}
 use native.Mathlib.Omega.{arith}
 use borrow.Author.Needs.{needs}
 use Rattle.vertices.specs.Declaration.{componentsFrom, componentsOf}
-use Rattle.vertices.proofs.ComponentLaws.{Filling, component-small, filling-start, filling-set, filling-clear, filling-end}
+use Rattle.vertices.proofs.ComponentWalk.{Filling, component-small, filling-start, filling-set, filling-clear, filling-end}
 use Rattle.vertices.proofs.declaration.VertexDeclaration.components.Statement.{statement}
 use Rattle.vertices.proofs.declaration.VertexDeclaration.components.Tie as tie
 use Rattle.vertices.proofs.declaration.VertexDeclaration.components.Reads as reads
