@@ -11,7 +11,7 @@ use borrow.Author.Tests.{eq-eqb, ne-eqb, eqb-true}
 use lib.Dec.{eqb}
 use lib.ListN.{length, getD, take}
 use Rattle.vertices.specs.Types.{componentType, sizeOf}
-use Rattle.vertices.specs.Declaration.{componentAt, componentOf, componentsFrom, componentsOf, emptyComponent, odd, sizes, totalSize, withIndex}
+use Rattle.vertices.specs.Declaration.{componentAt, componentOf, componentsFrom, componentsOf, emptyComponent, odd, positionOnly, sizes, totalSize, withIndex}
 use Rattle.vertices.specs.declared.types.VertexComponent.{VertexComponent}
 use Rattle.vertices.specs.declared.declaration.VertexDeclaration.{VertexDeclaration}
 use Rattle.vertices.proofs.TypeLaws.{size-bound}
@@ -240,3 +240,15 @@ module _ (d : VertexDeclaration) where
   found-within index c e =
       let a = component-among index c e in
       rw (a .2) at (component-within (a .0) (a .1))
+
+-- ---- of a position alone
+
+-- one Float3, at 0
+pub position-components : (stride : ℕ) → componentsOf (positionOnly stride) ≡ componentAt 0 6 0 ∷ []
+unfolding componentsOf componentsFrom
+position-components stride = refl
+
+-- of 12 bytes
+pub position-total : (stride : ℕ) → totalSize (positionOnly stride) ≡ 12
+unfolding totalSize sizes componentsOf componentsFrom componentType
+position-total stride = refl

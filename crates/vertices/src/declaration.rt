@@ -101,10 +101,10 @@ impl VertexDeclaration {
         let mut offset: u16 = 0;
         while index < 16 {
             if flags % 2 == 1 {
-                let component = component_at(index, (types % 16) as u8, offset);
-                items[count] = component;
+                let item = component_at(index, (types % 16) as u8, offset);
+                items[count] = item;
                 count += 1;
-                offset += component.size as u16;
+                offset += item.size as u16;
             }
             index += 1;
             flags = flags / 2;
