@@ -1,11 +1,11 @@
 -- Laws of components: how many there are, where each lies, and which one a semantic's number finds.
-use mathlib.Core.Path.{_≡_, refl, sym, ap, subst, _∙_}
+use mathlib.Core.Path.{_≡_, refl, _∙_}
 use mathlib.Core.Bool.{Bool, true, false, cond}
 use mathlib.Core.List.{List, [], _∷_}
 use mathlib.Core.Logic.{⊎-elim}
 use mathlib.Core.Option.{Option, none, some}
 use Prim.Native.Nat.{ℕ, zero, suc, _+_, _*_, _-_, _/_, _%_, _^_, _≤_, _<_}
-use native.Mathlib.Nat.{add-assoc, add-zero, div-div-eq-div-mul, div-one, eq-zero-or-pos, pow-succ', pow-zero, zero-add}
+use native.Mathlib.Nat.{add-assoc, add-zero, div-div-eq-div-mul, div-one, eq-zero-or-pos, pow-succ', zero-add}
 use native.Mathlib.Omega.{arith}
 use borrow.Author.Tests.{eq-eqb, ne-eqb, eqb-true}
 use lib.Dec.{eqb}
@@ -70,25 +70,19 @@ module _ (k index flags types offset : ℕ) where
       by-flags (λ k i o cs. sizes cs ≤ 16 * k) (λ i o. omega arith) (λ k i o cs h. omega arith) (λ k i n o cs h. omega (arith, size-bound (componentType n)))
       k index flags types offset
 
+  -- one behind the other
   consecutive-from : Consecutive offset (componentsFrom k index flags types offset)
   consecutive-from =
       by-flags (λ k i o cs. Consecutive o cs) (λ i o. tt) (λ k i o cs h. h) (λ k i n o cs h. (refl, h))
       k index flags types offset
 
-  -- none has a number below the first flag's
-  none-below : (wanted : ℕ) → wanted < index → withIndex wanted (componentsFrom k index flags types offset) ≡ none
+  -- a number that is none of the k from `index` on finds none
+  none-outside : (wanted : ℕ) → ((n : ℕ) → index ≤ n → n < index + k → n ≡ wanted → ⊥) → withIndex wanted (componentsFrom k index flags types offset) ≡ none
   unfolding withIndex
-  none-below =
-      by-flags (λ k i o cs. (wanted : ℕ) → wanted < i → withIndex wanted cs ≡ none) (λ i o w l. refl) (λ k i o cs h w l. h w (omega arith))
-      (λ k i n o cs h w l. rw (ne-eqb i w (λ e. omega arith)) (h w (omega arith)))
-      k index flags types offset
-
-  -- or above the last one's
-  none-above : (wanted : ℕ) → index + k ≤ wanted → withIndex wanted (componentsFrom k index flags types offset) ≡ none
-  unfolding withIndex
-  none-above =
-      by-flags (λ k i o cs. (wanted : ℕ) → i + k ≤ wanted → withIndex wanted cs ≡ none) (λ i o w l. refl) (λ k i o cs h w l. h w (omega arith))
-      (λ k i n o cs h w l. rw (ne-eqb i w (λ e. omega arith)) (h w (omega arith)))
+  none-outside =
+      by-flags (λ k i o cs. (wanted : ℕ) → ((n : ℕ) → i ≤ n → n < i + k → n ≡ wanted → ⊥) → withIndex wanted cs ≡ none) (λ i o w l. refl)
+      (λ k i o cs h w l. h w (λ n a b. l n (omega arith) (omega arith)))
+      (λ k i n o cs h w l. rw (ne-eqb i w (l i (omega arith) (omega arith))) (h w (λ n a b. l n (omega arith) (omega arith))))
       k index flags types offset
 
   -- each is the one that its number finds
@@ -97,7 +91,7 @@ module _ (k index flags types offset : ℕ) where
       by-flags (λ k i o cs. Numbered i cs) (λ i o n l. absurd (omega arith)) (λ k i o cs h n l. (omega (arith, h n l .0), h n l .1)) (λ k i n o cs h. numbered-front i n o cs h)
       k index flags types offset
 
-module _ (wanted index nibble offset : ℕ) where
+module _ (index nibble offset : ℕ) where
   -- the lowest flag's own number finds its component, or none
   found-here : (b : Bool) (cs cs′ : List VertexComponent) → withIndex index cs′ ≡ none
       → withIndex index (cond b (componentAt index nibble offset ∷ cs) cs′) ≡ cond b (some (componentAt index nibble offset)) none
@@ -106,12 +100,12 @@ module _ (wanted index nibble offset : ℕ) where
   found-here false cs cs′ e = e
 
   -- another number finds what it finds among the later flags
-  found-later : (b : Bool) (found : ℕ → Option VertexComponent) (cs cs′ ds ds′ : List VertexComponent) → (index ≡ wanted → ⊥)
+  found-later : (wanted : ℕ) (b : Bool) (found : ℕ → Option VertexComponent) (cs cs′ ds ds′ : List VertexComponent) → (index ≡ wanted → ⊥)
       → withIndex wanted cs ≡ found (offset + sizeOf (componentType nibble) + sizes ds) → withIndex wanted cs′ ≡ found (offset + sizes ds′)
       → withIndex wanted (cond b (componentAt index nibble offset ∷ cs) cs′) ≡ found (offset + sizes (cond b (componentAt index nibble offset ∷ ds) ds′))
   unfolding withIndex sizes
-  found-later true found cs cs′ ds ds′ h e f = rw (ne-eqb index wanted h, ← add-assoc) e
-  found-later false found cs cs′ ds ds′ h e f = f
+  found-later wanted true found cs cs′ ds ds′ h e f = rw (ne-eqb index wanted h, ← add-assoc) e
+  found-later wanted false found cs cs′ ds ds′ h e f = f
 
 -- the component of a set flag: its number, its nibble, and the sizes of the components of lower flags
 found-from : (k m index flags types offset : ℕ) → withIndex (index + k) (componentsFrom (k + suc m) index flags types offset)
@@ -119,12 +113,12 @@ found-from : (k m index flags types offset : ℕ) → withIndex (index + k) (com
 unfolding componentsFrom sizes
 found-from zero m index flags types offset =
     rw (add-zero index, zero-add, div-one flags, div-one types, add-zero offset)
-    (found-here index index (types % 16) offset (odd flags) _ _ (none-below m (index + 1) (flags / 2) (types / 16) offset index (omega arith)))
+    (found-here index (types % 16) offset (odd flags) _ _ (none-outside m (index + 1) (flags / 2) (types / 16) offset index (λ n a b e. omega arith)))
 found-from (suc k) m index flags types offset =
     let i : index + suc k ≡ index + 1 + k = omega arith in
     let n : suc k + suc m ≡ suc (k + suc m) = omega arith in
     simp (i, n, pow-succ', ← div-div-eq-div-mul)
-    (found-later (index + 1 + k) index (types % 16) offset (odd flags)
+    (found-later index (types % 16) offset (index + 1 + k) (odd flags)
     (λ o. cond (odd (flags / 2 / 2 ^ k)) (some (componentAt (index + 1 + k) (types / 16 / 16 ^ k % 16) o)) none) _ _ _ _ (λ e. omega arith)
     (found-from k m (index + 1) (flags / 2) (types / 16) (offset + sizeOf (componentType (types % 16)))) (found-from k m (index + 1) (flags / 2) (types / 16) offset))
 
@@ -201,8 +195,8 @@ module _ (d : VertexDeclaration) where
   component-within i h = omega (arith, within 0 (componentsOf d) components-consecutive i h)
 
   -- where the total is at most n, each component ends by n
-  pub total-inside : (n : ℕ) → totalSize d ≤ n → (i : ℕ) → i < length (componentsOf d) → (item (componentsOf d) i) .offset + (item (componentsOf d) i) .size ≤ n
-  total-inside n t i h = omega (arith, component-within i h)
+  pub components-inside : (n : ℕ) → totalSize d ≤ n → (i : ℕ) → i < length (componentsOf d) → (item (componentsOf d) i) .offset + (item (componentsOf d) i) .size ≤ n
+  components-inside n t i h = omega (arith, component-within i h)
 
   -- where each component of nonzero size ends by n, the total is at most n
   pub inside-total : (n : ℕ)
@@ -223,7 +217,7 @@ module _ (d : VertexDeclaration) where
   -- there is none of a number from 16 on
   pub component-none : (index : ℕ) → 16 ≤ index → componentOf d index ≡ none
   unfolding componentOf componentsOf
-  component-none index h = none-above 16 0 (d .flags) (d .types) 0 index (omega arith)
+  component-none index h = none-outside 16 0 (d .flags) (d .types) 0 index (λ n a b e. omega arith)
 
   -- each component is the one that its number finds
   pub item-found : (i : ℕ) → i < length (componentsOf d) → componentOf d ((item (componentsOf d) i) .«semantic_index») ≡ some (item (componentsOf d) i)

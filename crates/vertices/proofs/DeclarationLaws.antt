@@ -1,4 +1,4 @@
--- The 16 bytes of a declaration: written by five puts, read back, and written again as they were read.
+-- The 16 bytes of a declaration, written and read back, read and written back; the widths of its numbers; its id.
 use mathlib.Core.Path.{_≡_, refl, sym, ap, _∙_}
 use mathlib.Core.Bool.{Bool, true, false, cond}
 use mathlib.Core.List.{List, [], _∷_, _++_}
@@ -11,8 +11,8 @@ use lib.ListN.{length, getD, take, drop}
 use lib.Seq.{getD-drop}
 use Rattle.sections.specs.Edit.{part, overwrite, fits, Edited}
 use Rattle.sections.specs.Le.{le, bytes, field}
-use Rattle.sections.proofs.EditLaws.{edited-fits, overwrite-all, overwrite-length, overwrite-then, part-add, part-getD, part-length, part-part, part-same}
-use Rattle.sections.proofs.LeLaws.{bytes-le, field-in, le-bound, le-bytes, length-bytes}
+use Rattle.sections.proofs.EditLaws.{edited-fits, overwrite-all, overwrite-length, overwrite-then, part-add, part-length, part-part, part-same}
+use Rattle.sections.proofs.LeLaws.{bytes-le, field-in, le-bound, le-bytes}
 use Rattle.vertices.specs.Declaration.{declarationAt, declarationBytes, idFrom, InWidth, odd, positionOnly}
 use Rattle.vertices.specs.declared.declaration.VertexDeclaration.{VertexDeclaration}
 

@@ -1,8 +1,6 @@
 // Vertex declarations: 16 bytes that say which components a vertex has, and of which types.
 ghost use mathlib.Core.Path.{_≡_};
-ghost use Prim.Native.Nat.{_+_, _*_, _≤_, _<_};
 ghost use Rattle.sections.specs.Edit.{fits, Edited};
-ghost use Rattle.vertices.specs.Types.{sizeOf, componentType};
 ghost use Rattle.vertices.specs.Declaration.{declarationAt, declarationBytes, positionOnly, componentAt, componentList, componentsOf, componentOf, foundComponent, idFrom, declarationId, emptyComponent};
 use crate::types::VertexComponent;
 use crate::types::VertexComponentType;
