@@ -155,6 +155,13 @@ within offset [] f i h = absurd (omega arith)
 within offset (c ∷ cs) f zero h = omega (arith, f .0)
 within offset (c ∷ cs) f (suc i) h = omega (arith, within (offset + c .size) cs (f .1) i (omega arith))
 
+-- each ends before a later one begins
+apart : (offset : ℕ) (cs : List VertexComponent) → Consecutive offset cs → (i j : ℕ) → i < j → j < length cs → (item cs i) .offset + (item cs i) .size ≤ (item cs j) .offset
+apart offset [] f i j h l = absurd (omega arith)
+apart offset (c ∷ cs) f i zero h l = absurd (omega arith)
+apart offset (c ∷ cs) f zero (suc j) h l = omega (arith, f .0, offset-at (offset + c .size) cs (f .1) j (omega arith))
+apart offset (c ∷ cs) f (suc i) (suc j) h l = apart (offset + c .size) cs (f .1) i j (omega arith) (omega arith)
+
 -- where each that has a size ends by n, they all do
 by-each : (n offset : ℕ) (cs : List VertexComponent) → Consecutive offset cs
     → ((i : ℕ) → i < length cs → 0 < (item cs i) .size → (item cs i) .offset + (item cs i) .size ≤ n)
@@ -193,6 +200,10 @@ module _ (d : VertexDeclaration) where
   pub component-within : (i : ℕ) → i < length (componentsOf d) → (item (componentsOf d) i) .offset + (item (componentsOf d) i) .size ≤ totalSize d
   unfolding totalSize
   component-within i h = omega (arith, within 0 (componentsOf d) components-consecutive i h)
+
+  -- a component ends before a later one begins
+  pub components-apart : (i j : ℕ) → i < j → j < length (componentsOf d) → (item (componentsOf d) i) .offset + (item (componentsOf d) i) .size ≤ (item (componentsOf d) j) .offset
+  components-apart i j h l = apart 0 (componentsOf d) components-consecutive i j h l
 
   -- where the total is at most n, each component ends by n
   pub components-inside : (n : ℕ) → totalSize d ≤ n → (i : ℕ) → i < length (componentsOf d) → (item (componentsOf d) i) .offset + (item (componentsOf d) i) .size ≤ n
