@@ -16,3 +16,7 @@ pub mod NormalisedColour
 pub mod NormalisedFits
 pub mod NormalisedRoundTrip
 pub mod NormalisedSigned
+pub mod TypeLaws
+pub mod DeclarationLaws
+pub mod ComponentWalk
+pub mod ComponentLaws
