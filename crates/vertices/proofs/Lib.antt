@@ -6,3 +6,4 @@ pub mod HalfNearest
 pub mod HalfLaws
 pub mod HalfBridge
 pub mod Vectors
+pub mod RunLaws
