@@ -7,3 +7,4 @@ pub mod HalfLaws
 pub mod HalfBridge
 pub mod Vectors
 pub mod RunLaws
+pub mod RunLoops
