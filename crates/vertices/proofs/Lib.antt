@@ -8,3 +8,4 @@ pub mod HalfBridge
 pub mod Vectors
 pub mod RunLaws
 pub mod RunLoops
+pub mod RegularLaws

@@ -36,5 +36,5 @@ encode-each-spec =
     let called = c .before .before in
     let turn = called .before .before .before .before .before .loop in
     converting-one (turn .inv) (omega arith) (cc (called .set-u16 .ensures, called .before .f32-to-f16 .ensures, called .before .before .u32-at .ensures)))
-    (λ c. c .before .loop .inv .same)
+    (λ c. c .before .loop .inv .writing .same)
     (λ c. converting-end (c .before .loop .inv) (omega arith)))
