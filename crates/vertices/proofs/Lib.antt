@@ -16,3 +16,6 @@ pub mod NormalisedColour
 pub mod NormalisedFits
 pub mod NormalisedRoundTrip
 pub mod NormalisedSigned
+pub mod RunLaws
+pub mod RunLoops
+pub mod RegularLaws
