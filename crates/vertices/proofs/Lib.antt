@@ -19,3 +19,7 @@ pub mod NormalisedSigned
 pub mod RunLaws
 pub mod RunLoops
 pub mod RegularLaws
+pub mod TypeLaws
+pub mod DeclarationLaws
+pub mod ComponentWalk
+pub mod ComponentLaws

@@ -1,9 +1,16 @@
 // Vertices: floats carried as their bits, and how vertex data stores them.
+mod declaration;
 mod halves;
 mod normalised;
 mod runs;
+mod types;
 mod values;
 
+pub use declaration::ComponentList;
+pub use declaration::FoundComponent;
+pub use declaration::VertexDeclaration;
+pub use declaration::read_declaration;
+pub use declaration::write_declaration;
 pub use halves::f16_to_f32;
 pub use halves::f32_to_f16;
 pub use normalised::f32_to_snorm8;
@@ -14,6 +21,9 @@ pub use normalised::unorm8_to_f32;
 pub use runs::RunAnswer;
 pub use runs::floats_to_halves;
 pub use runs::halves_to_floats;
+pub use types::VertexComponent;
+pub use types::VertexComponentType;
+pub use types::VertexSemantic;
 pub use values::Bytes4;
 pub use values::F32;
 pub use values::Vec2;

@@ -1,0 +1,105 @@
+-- The 16 bytes of a declaration: written by five puts, read back, and written again as they were read.
+use mathlib.Core.Path.{_≡_, refl, sym, ap, _∙_}
+use mathlib.Core.Bool.{Bool, true, false, cond}
+use mathlib.Core.List.{List, [], _∷_, _++_}
+use Prim.Native.Nat.{ℕ, zero, suc, _+_, _*_, _-_, _/_, _%_, _^_, _≤_, _<_}
+use native.Mathlib.Nat.{add-assoc, add-zero, zero-add}
+use native.Mathlib.Omega.{arith}
+use lib.Dec.{lit<}
+use lib.ListN.{length, getD, take, drop}
+use lib.Seq.{getD-drop}
+use Rattle.sections.specs.Edit.{part, overwrite, fits, Edited}
+use Rattle.sections.specs.Le.{le, bytes, field}
+use Rattle.sections.proofs.EditLaws.{edited-fits, overwrite-all, overwrite-length, overwrite-then, part-add, part-getD, part-length, part-part, part-same}
+use Rattle.sections.proofs.LeLaws.{bytes-le, field-in, field-out, le-bytes, length-bytes}
+use Rattle.vertices.specs.Declaration.{declarationAt, declarationBytes, idFrom, InWidth, odd}
+use Rattle.vertices.specs.declared.declaration.VertexDeclaration.{VertexDeclaration}
+
+-- ---- writing
+
+-- an edit right behind n bytes that were written makes one edit with them
+pub edited-behind : (s : List ℕ) (at : ℕ) (xs : List ℕ) (n k : ℕ) {t u ys : List ℕ} {r : Bool} → t ≡ overwrite s at xs → length xs ≡ n → length ys ≡ k
+    → Edited (fits t (at + n) k) t (at + n) ys r u → at + (n + k) ≤ length s → u ≡ overwrite s at (xs ++ ys)
+edited-behind s at xs n k {t} {u} {ys} e lx ly ed h =
+    let same : length t ≡ length s = ap length e ∙ overwrite-length s at xs (omega arith) in
+    edited-fits k ed (omega arith) ∙ ap (λ (l : List ℕ). overwrite l (at + n) ys) e ∙ overwrite-then s at n xs ys lx (omega arith)
+
+-- a declaration is 16 bytes
+pub declaration-length : (d : VertexDeclaration) → length (declarationBytes d) ≡ 16
+unfolding declarationBytes bytes
+declaration-length d = refl
+
+-- ---- reading back
+
+-- what the k bytes from i on of 16 bytes that were written say
+read-piece : (s : List ℕ) (at : ℕ) (w : List ℕ) → length w ≡ 16 → at + 16 ≤ length s → (k i : ℕ) → i + k ≤ 16 → (v : ℕ) → v < 256 ^ k → part w i k ≡ bytes k v
+    → field k (overwrite s at w) (at + i) ≡ v
+read-piece s at w l h k i hi v hv e =
+    let fit : at + length w ≤ length s = omega arith in
+    let same : length (overwrite s at w) ≡ length s = overwrite-length s at w fit in
+    field-in k (overwrite s at w) (at + i) (omega arith)
+    ∙ ap le (sym (part-part (overwrite s at w) at 16 i k hi) ∙ ap (λ (x : List ℕ). part x i k) (part-same s at w fit 16 l) ∙ e) ∙ le-bytes k v hv
+
+-- a declaration that was written reads back
+pub declaration-read-back : (s : List ℕ) (at : ℕ) (d : VertexDeclaration) → InWidth d → at + 16 ≤ length s → declarationAt (overwrite s at (declarationBytes d)) at ≡ d
+unfolding declarationAt declarationBytes part bytes
+declaration-read-back s at d w h =
+    let read : (k i : ℕ) → i + k ≤ 16 → (v : ℕ) → v < 256 ^ k → part (declarationBytes d) i k ≡ bytes k v → field k (overwrite s at (declarationBytes d)) (at + i) ≡ v =
+    read-piece s at (declarationBytes d) (declaration-length d) h in
+    let f : field 4 (overwrite s at (declarationBytes d)) at ≡ d .flags = rw add-zero at (read 4 0 (omega arith) (d .flags) (w .flags) refl) in
+    rw (f, read 2 4 (omega arith) (d .stride) (w .stride) refl, read 1 6 (omega arith) (d .«unknown_6h») (w .unknown) refl, read 1 7 (omega arith) (d .count) (w .count) refl, read 8 8 (omega arith) (d .types) (w .types) refl)
+
+-- a declaration's own bytes read as it
+pub declaration-inverse : (d : VertexDeclaration) → InWidth d → declarationAt (declarationBytes d) 0 ≡ d
+declaration-inverse d w =
+    let l : length (declarationBytes d) ≡ 16 = declaration-length d in
+    rw (overwrite-all (declarationBytes d) (declarationBytes d) refl) at (declaration-read-back (declarationBytes d) 0 d w (omega arith))
+
+-- ---- writing what was read
+
+take-below : (n : ℕ) (l : List ℕ) → ((i : ℕ) → getD l i 0 < 256) → (i : ℕ) → getD (take n l) i 0 < 256
+take-below zero l f i = lit< tt
+take-below (suc n) [] f i = lit< tt
+take-below (suc n) (x ∷ l) f zero = f 0
+take-below (suc n) (x ∷ l) f (suc i) = take-below n l (λ j. f (suc j)) i
+
+-- each element of a part of bytes is a byte
+pub part-below : (s : List ℕ) (at n : ℕ) → ((i : ℕ) → getD s i 0 < 256) → (i : ℕ) → getD (part s at n) i 0 < 256
+unfolding part
+part-below s at n f i = take-below n (drop at s) (λ j. rw (getD-drop at s j 0) (f (at + j))) i
+
+-- the bytes of a field are those that it was read from
+pub field-bytes : (k : ℕ) (s : List ℕ) (at : ℕ) → ((i : ℕ) → getD s i 0 < 256) → at + k ≤ length s → bytes k (field k s at) ≡ part s at k
+field-bytes k s at f h =
+    rw (field-in k s at h) (ap (λ (n : ℕ). bytes n (le (part s at k))) (sym (part-length s at k h)) ∙ bytes-le (part s at k) (part-below s at k f))
+
+-- the bytes of a declaration that was read are those that it was read from
+pub declaration-written-back : (s : List ℕ) (at : ℕ) → ((i : ℕ) → getD s i 0 < 256) → at + 16 ≤ length s → declarationBytes (declarationAt s at) ≡ part s at 16
+unfolding declarationAt declarationBytes
+declaration-written-back s at f h =
+    let b : (k i : ℕ) → i + k ≤ 16 → bytes k (field k s (at + i)) ≡ part s (at + i) k = λ k i l. field-bytes k s (at + i) f (omega arith) in
+    rw (field-bytes 4 s at f (omega arith), b 2 4 (omega arith), b 1 6 (omega arith), b 1 7 (omega arith), b 8 8 (omega arith), ← part-add s at 4 2, ← part-add s at 6 1, ← part-add s at 7 1, ← part-add s at 8 8)
+
+-- ---- the id
+
+-- of no flags
+pub id-none : (flags types : ℕ) → idFrom 0 flags types ≡ 0
+unfolding idFrom
+id-none flags types = refl
+
+-- of k flags: the lowest, and 16 times that of the others
+pub id-next : (k flags types : ℕ) → 0 < k → idFrom k flags types ≡ cond (odd flags) (types % 16) 0 + 16 * idFrom (k - 1) (flags / 2) (types / 16)
+unfolding idFrom
+id-next k flags types h =
+    let n : k ≡ suc (k - 1) = omega arith in
+    ap (λ (m : ℕ). idFrom m flags types) n
+
+cond-bound : (b : Bool) (x : ℕ) → cond b x 0 ≤ x
+cond-bound true x = omega arith
+cond-bound false x = omega arith
+
+-- an id is at most the types
+pub id-bound : (k flags types : ℕ) → idFrom k flags types ≤ types
+unfolding idFrom
+id-bound zero flags types = omega arith
+id-bound (suc k) flags types = omega (arith, id-bound k (flags / 2) (types / 16), cond-bound (odd flags) (types % 16))
