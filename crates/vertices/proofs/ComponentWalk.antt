@@ -75,14 +75,14 @@ module _ {wanted flags₀ types₀ index flags types offset : ℕ} (s : Searchin
       record {
         same = rw q (rw (components-set index flags types offset low e, ne-eqb index wanted h) at (s .same));
         bound = omega arith;
-        room = omega (arith, component-small (types % 16) is, s .room)
+        room = omega (arith, component-small (types % 16) is, s .room);
       }
 
   pub searching-clear : {next : ℕ} → index < 16 → (flags % 2 ≡ 1 → ⊥) → next ≡ offset → Searching wanted flags₀ types₀ (index + 1) (flags / 2) (types / 16) next
   searching-clear low e n = record {
     same = rw n (rw (components-clear index flags types offset low e) at (s .same));
     bound = omega arith;
-    room = omega (arith, s .room)
+    room = omega (arith, s .room);
   }
 
   pub searching-end : 16 ≤ index → withIndex wanted (componentsFrom 16 0 flags₀ types₀ 0) ≡ none
@@ -117,7 +117,7 @@ module _ {all items : List VertexComponent} {count index flags types offset : �
         same = rw (i, length-set) (f .same);
         few = omega (arith, f .few);
         bound = omega arith;
-        room = omega (arith, component-small (types % 16) is, f .room)
+        room = omega (arith, component-small (types % 16) is, f .room);
       }
 
   pub filling-clear : {items′ : List VertexComponent} {count′ next : ℕ} → index < 16 → (flags % 2 ≡ 1 → ⊥) → items′ ≡ items → count′ ≡ count → next ≡ offset
@@ -128,7 +128,7 @@ module _ {all items : List VertexComponent} {count index flags types offset : �
     same = rw i (f .same);
     few = omega (arith, f .few);
     bound = omega arith;
-    room = omega (arith, f .room)
+    room = omega (arith, f .room);
   }
 
   pub filling-end : 16 ≤ index → _≡_ {A = ComponentList} (record { items = items; count = count }) (componentList all)

@@ -33,7 +33,13 @@ pub fn read_declaration(raw: &[u8], off: usize) -> VertexDeclaration
     ensures { λ r. ⌜ r ≡ declarationAt (now (raw .entry)) off ⌝ }
 {
     if raw.len() < off {
-        return VertexDeclaration { flags: 0, stride: 0, unknown_6h: 0, count: 0, types: 0 };
+        return VertexDeclaration {
+            flags: 0,
+            stride: 0,
+            unknown_6h: 0,
+            count: 0,
+            types: 0,
+        };
     }
     VertexDeclaration {
         flags: sections::u32_le(raw, off),
@@ -67,7 +73,13 @@ impl VertexDeclaration {
     pub fn position_only(stride: u16) -> Self
         ensures { λ r. ⌜ r ≡ positionOnly stride ⌝ }
     {
-        Self { flags: 1, stride, unknown_6h: 0, count: 1, types: 6 }
+        Self {
+            flags: 1,
+            stride,
+            unknown_6h: 0,
+            count: 1,
+            types: 6,
+        }
     }
 
     // The type nibbles of the set flags, each at its own place.

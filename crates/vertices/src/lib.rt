@@ -1,4 +1,5 @@
 // Vertices: floats carried as their bits, and how vertex data stores them.
+mod buffer;
 mod declaration;
 mod halves;
 mod normalised;
@@ -6,6 +7,10 @@ mod runs;
 mod types;
 mod values;
 
+pub use buffer::FoundBuffer;
+pub use buffer::StoredDeclaration;
+pub use buffer::VertexBuffer;
+pub use buffer::VertexBufferLayout;
 pub use declaration::ComponentList;
 pub use declaration::FoundComponent;
 pub use declaration::VertexDeclaration;
@@ -15,8 +20,8 @@ pub use halves::f16_to_f32;
 pub use halves::f32_to_f16;
 pub use normalised::f32_to_snorm8;
 pub use normalised::f32_to_unorm8;
-pub use normalised::snorm8_to_f32;
 pub use normalised::snorm_colour8;
+pub use normalised::snorm8_to_f32;
 pub use normalised::unorm8_to_f32;
 pub use runs::RunAnswer;
 pub use runs::floats_to_halves;
