@@ -2,6 +2,7 @@
 use mathlib.Core.Path.{_≡_, refl, sym, ap, _∙_}
 use mathlib.Core.Bool.{Bool, true, false, cond, _&&_}
 use mathlib.Core.List.{List, []}
+use mathlib.Core.Logic.{_⊎_, inl, inr}
 use mathlib.Core.Option.{Option, none, some, Option·getD}
 use Prim.Native.Nat.{ℕ, _+_, _-_, _*_, _/_, _%_, _^_, _≤_, _<_}
 use native.Mathlib.Omega.{arith}
@@ -89,3 +90,38 @@ module _ (s : Sections) (va n : ℕ) where
 
   pub resolved-short : length (Option·getD (resolved s va n) []) < n → resolved s va n ≡ none
   resolved-short h = short (resolved s va n) n (resolved-length s va n) h
+
+-- ---- a place that was found has its bytes
+
+by-tests : (P : Located → Type 0) {x y : Located} (zero graphics system : Bool) → P Nothing → P x → P y → P (cond zero Nothing (cond graphics x (cond system y Nothing)))
+by-tests P true graphics system p q r = p
+by-tests P false true system p q r = q
+by-tests P false false true p q r = r
+by-tests P false false false p q r = p
+
+-- what holds of nothing and of a range in each section holds of wherever an address points
+pub located-elim : (P : Located → Type 0) (s : Sections) (va n : ℕ) → P Nothing → P (within Graphics (s .graphics) (va - 0x60000000) n) → P (within System (s .system) (va - 0x50000000) n)
+    → P (located s va n)
+unfolding located
+located-elim P s va n p q r = by-tests P (eqb va 0) (bothSet 30 29 va) (bothSet 30 28 va) p q r
+
+-- nothing, or a place whose n bytes are there
+pub record HasBytes (s : Sections) (place : Located) (n : ℕ) : Type 0 where
+  pub content : List ℕ
+  pub is : rangeOf s place n ≡ some content
+  pub long : length content ≡ n
+
+has-bytes : (s : Sections) (place : Located) (n : ℕ) (b : List ℕ) → rangeOf s place n ≡ some b → HasBytes s place n
+has-bytes s place n b e = record { content = b; is = e; long = range-length s place n b e }
+
+in-part : (s : Sections) (section : List ℕ) (make : ℕ → Located) → ((at n : ℕ) → rangeOf s (make at) n ≡ partOf section at n)
+    → (at n : ℕ) (t : Bool) → fits section at n ≡ t → (cond t (make at) Nothing ≡ Nothing) ⊎ HasBytes s (cond t (make at) Nothing) n
+unfolding partOf
+in-part s section make same at n true e = inr (has-bytes s (make at) n (part section at n) (same at n ∙ rw e))
+in-part s section make same at n false e = inl refl
+
+pub located-found : (s : Sections) (va n : ℕ) → (located s va n ≡ Nothing) ⊎ HasBytes s (located s va n) n
+located-found s va n =
+    located-elim (λ place. (place ≡ Nothing) ⊎ HasBytes s place n) s va n (inl refl)
+    (in-part s (s .graphics) Graphics (λ at k. refl) (va - 0x60000000) n (fits (s .graphics) (va - 0x60000000) n) refl)
+    (in-part s (s .system) System (λ at k. refl) (va - 0x50000000) n (fits (s .system) (va - 0x50000000) n) refl)

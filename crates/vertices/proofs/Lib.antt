@@ -16,7 +16,11 @@ pub mod NormalisedColour
 pub mod NormalisedFits
 pub mod NormalisedRoundTrip
 pub mod NormalisedSigned
+pub mod RunLaws
+pub mod RunLoops
+pub mod RegularLaws
 pub mod TypeLaws
 pub mod DeclarationLaws
 pub mod ComponentWalk
 pub mod ComponentLaws
+pub mod BufferLaws

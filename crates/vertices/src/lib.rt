@@ -1,10 +1,17 @@
 // Vertices: floats carried as their bits, and how vertex data stores them.
+mod buffer;
 mod declaration;
 mod halves;
 mod normalised;
+mod runs;
 mod types;
 mod values;
 
+pub use buffer::FoundBuffer;
+pub use buffer::StoredDeclaration;
+pub use buffer::VertexBuffer;
+pub use buffer::VertexBufferLayout;
+pub use buffer::parse_vertex_buffer_at;
 pub use declaration::ComponentList;
 pub use declaration::FoundComponent;
 pub use declaration::VertexDeclaration;
@@ -17,6 +24,9 @@ pub use normalised::f32_to_unorm8;
 pub use normalised::snorm8_to_f32;
 pub use normalised::snorm_colour8;
 pub use normalised::unorm8_to_f32;
+pub use runs::RunAnswer;
+pub use runs::floats_to_halves;
+pub use runs::halves_to_floats;
 pub use types::VertexComponent;
 pub use types::VertexComponentType;
 pub use types::VertexSemantic;

@@ -1,0 +1,16 @@
+-- Which halves and floats are converted in blocks: zeros and normal numbers. Only private functions speak of it.
+use mathlib.Core.Bool.{cond}
+use Prim.Native.Nat.{ℕ, _*_, _%_, _^_}
+use lib.Dec.{eqb, ltb}
+
+-- 0 where m is 0, or `least` or more and below `limit`; else 1
+unfoldable pub irregular : ℕ → ℕ → ℕ → ℕ
+irregular least limit m = cond (eqb m 0) 0 (cond (ltb m least) 1 (cond (ltb m limit) 0 1))
+
+-- 0 for a half that is a zero or a normal number, 1 for a subnormal one, an infinity and a NaN
+abbrev pub irregularHalf : ℕ → ℕ
+irregularHalf h = irregular (2 ^ 10) (31 * 2 ^ 10) (h % 2 ^ 15)
+
+-- 0 for a float that is a zero or becomes a normal half, or one of 2^16 by rounding; 1 for any other
+abbrev pub irregularFloat : ℕ → ℕ
+irregularFloat b = irregular (113 * 2 ^ 23) (143 * 2 ^ 23) (b % 2 ^ 31)
