@@ -1,8 +1,8 @@
 -- Loops that write n numbers of m bytes each to d, from the place of the number with the index `first` on: what stands there after i of them.
 use mathlib.Core.Path.{_≡_, refl, sym, ap, _∙_}
 use mathlib.Core.List.{List, [], _∷_, _++_, map, map-append}
-use Prim.Native.Nat.{ℕ, _+_, _*_, _/_, _≤_, _<_}
-use native.Mathlib.Nat.{add-mul, le-trans, mul-le-mul-right, one-mul}
+use Prim.Native.Nat.{ℕ, _+_, _-_, _*_, _/_, _≤_, _<_}
+use native.Mathlib.Nat.{add-mul, le-trans, mul-le-mul-right, one-mul, zero-add, zero-mul}
 use native.Mathlib.Numerals.{add-one}
 use native.Mathlib.Omega.{arith}
 use borrow.Author.Count.{below-more}
@@ -79,6 +79,18 @@ module _ {k m : ℕ} {f : ℕ → ℕ} {s d : List ℕ} {first n : ℕ} {b : Lis
   -- after the last
   pub converting-end : i ≡ n → b ≡ overwrite d (first * m) (converted k m f n (drop (first * k) s))
   converting-end e = writing-end (c .writing) e
+
+-- all numbers of s, from the first on
+module _ {k m : ℕ} {f : ℕ → ℕ} {s d : List ℕ} {n : ℕ} {b : List ℕ} {i : ℕ} (c : Converting k m f s d 0 n b i) where
+  -- j numbers more
+  pub run-turn : (j : ℕ) {t : List ℕ} → i + j ≤ n → t ≡ overwrite b (i * m) (converted k m f j (drop (i * k) s)) → Converting k m f s d 0 n t (i + j)
+  run-turn j h e = converting-turn c j h (rw (zero-add i) e)
+
+  -- all that are left
+  pub run-last : {t : List ℕ} → t ≡ overwrite b (i * m) (converted k m f (n - i) (drop (i * k) s)) → t ≡ overwrite d 0 (converted k m f n s)
+  run-last e =
+      let l : i ≤ n = c .writing .low in
+      rw (zero-mul m, zero-mul k) at (converting-end (run-turn (n - i) (omega arith) e) (omega arith))
 
 -- ---- the numbers xs
 

@@ -162,7 +162,11 @@ fn encode_regular(src: &[u8], dst: &mut [u8], first: usize)
 {
     let mut i = 0;
     while i < BLOCK {
-        set_u16(dst, (first + i) * 2, half_of_regular(u32_at(src, (first + i) * 4)));
+        set_u16(
+            dst,
+            (first + i) * 2,
+            half_of_regular(u32_at(src, (first + i) * 4)),
+        );
         i += 1;
     }
 }
