@@ -288,26 +288,35 @@ fn encode_each(src: &[u8], dst: &mut [u8], first: usize, n: usize)
     }
 }
 
-// Fields that are known to fit: a wider one is two of half its width.
+// Fields that are known to fit. Each is read byte by byte: the compiler makes one load of that.
 
-fn wide(b: u8) -> u16
+fn wide_u16(b: u8) -> u16
     ensures { λ r. ⌜ (r ≡ b) × (r < 256) ⌝ }
 {
     b as u16
+}
+
+fn wide_u32(b: u8) -> u32
+    ensures { λ r. ⌜ (r ≡ b) × (r < 256) ⌝ }
+{
+    b as u32
 }
 
 fn u16_at(b: &[u8], off: usize) -> u16
     requires { ⌜ off + 2 ≤ length (now b) ⌝ }
     ensures { λ r. ⌜ r ≡ le (part (now (b .entry)) off 2) ⌝ }
 {
-    wide(b[off]) + 256 * wide(b[off + 1])
+    wide_u16(b[off]) + 256 * wide_u16(b[off + 1])
 }
 
 fn u32_at(b: &[u8], off: usize) -> u32
     requires { ⌜ off + 4 ≤ length (now b) ⌝ }
     ensures { λ r. ⌜ r ≡ le (part (now (b .entry)) off 4) ⌝ }
 {
-    u16_at(b, off) as u32 + u16_at(b, off + 2) as u32 * 65536
+    wide_u32(b[off])
+        + 256 * wide_u32(b[off + 1])
+        + 65536 * wide_u32(b[off + 2])
+        + 16777216 * wide_u32(b[off + 3])
 }
 
 fn set_u16(b: &mut [u8], off: usize, v: u16)
