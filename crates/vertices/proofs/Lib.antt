@@ -9,3 +9,4 @@ pub mod Vectors
 pub mod RunLaws
 pub mod RunLoops
 pub mod RegularLaws
+pub mod SubnormalLaws
