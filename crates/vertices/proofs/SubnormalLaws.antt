@@ -17,6 +17,7 @@ every : (ℕ → Bool) → ℕ → Bool
 every p zero = true
 every p (suc n) = p n && every p n
 
+-- and so of each
 every-at : (p : ℕ → Bool) (n : ℕ) → T (every p n) → (i : ℕ) → i < n → T (p i)
 unfolding every
 every-at p zero t i h = absurd (not-suc-le-zero h)
