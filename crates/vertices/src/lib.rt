@@ -1,4 +1,5 @@
 // Vertices: floats carried as their bits, and how vertex data stores them.
+mod attribute;
 mod buffer;
 mod declaration;
 mod halves;
@@ -7,6 +8,8 @@ mod runs;
 mod types;
 mod values;
 
+pub use attribute::VertexAttribute;
+pub use attribute::VertexAttributeValue;
 pub use buffer::FoundBuffer;
 pub use buffer::StoredDeclaration;
 pub use buffer::VertexBuffer;
