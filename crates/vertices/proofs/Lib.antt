@@ -23,3 +23,4 @@ pub mod TypeLaws
 pub mod DeclarationLaws
 pub mod ComponentWalk
 pub mod ComponentLaws
+pub mod BufferLaws

@@ -14,6 +14,7 @@ pub use buffer::FoundBuffer;
 pub use buffer::StoredDeclaration;
 pub use buffer::VertexBuffer;
 pub use buffer::VertexBufferLayout;
+pub use buffer::parse_vertex_buffer_at;
 pub use declaration::ComponentList;
 pub use declaration::FoundComponent;
 pub use declaration::VertexDeclaration;
