@@ -1,19 +1,16 @@
--- Components: the walk over the flags, and where each component lies.
+-- The walk over the flags: what the two loops over them keep.
 use mathlib.Core.Path.{_≡_, refl, sym, ap, _∙_}
-use mathlib.Core.Bool.{Bool, true, false, cond}
 use mathlib.Core.List.{List, [], _∷_, _++_, append-nil}
-use mathlib.Core.Option.{Option, none, some}
-use Prim.Native.Nat.{ℕ, zero, suc, _+_, _*_, _-_, _/_, _%_, _^_, _≤_, _<_}
-use native.Mathlib.Nat.{add-assoc, add-zero, zero-add}
+use mathlib.Core.Option.{none, some}
+use Prim.Native.Nat.{ℕ, suc, _+_, _*_, _-_, _/_, _%_, _≤_, _<_}
 use native.Mathlib.Numerals.{add-one}
 use native.Mathlib.Omega.{arith}
 use borrow.Author.Tests.{eq-eqb, ne-eqb}
-use lib.ListN.{length, getD, take, drop, set, replicate, length-append, length-set, take-append-drop}
+use lib.ListN.{length, take, drop, set, replicate, length-set, take-append-drop}
 use lib.Seq.{append-snoc, drop-drop, drop-set-lt, length-take-le, take-suc-set}
 use Rattle.vertices.specs.Types.{componentType, sizeOf}
-use Rattle.vertices.specs.Declaration.{componentAt, componentsFrom, componentsOf, componentList, emptyComponent, sizes, totalSize, withIndex, componentOf, idFrom}
+use Rattle.vertices.specs.Declaration.{componentAt, componentsFrom, componentList, emptyComponent, withIndex}
 use Rattle.vertices.specs.declared.types.VertexComponent.{VertexComponent}
-use Rattle.vertices.specs.declared.declaration.VertexDeclaration.{VertexDeclaration}
 use Rattle.vertices.specs.declared.declaration.ComponentList.{ComponentList}
 use Rattle.vertices.proofs.TypeLaws.{size-bound}
 
@@ -46,7 +43,7 @@ components-end index flags types offset h =
 pub component-small : (nibble : ℕ) {index offset : ℕ} {c : VertexComponent} → c ≡ componentAt index nibble offset → c .size ≤ 16
 component-small nibble e = rw e (size-bound (componentType nibble))
 
--- the offset behind a component, by the component
+-- the offset behind a component is its own and its type's size
 next-offset : (nibble offset : ℕ) {index next : ℕ} {c : VertexComponent} → c ≡ componentAt index nibble offset → next ≡ offset + c .size → next ≡ offset + sizeOf (componentType nibble)
 next-offset nibble offset e h = h ∙ ap (λ (x : VertexComponent). offset + x .size) e
 
@@ -58,15 +55,18 @@ pub record Searching (wanted flags₀ types₀ index flags types offset : ℕ) :
   pub bound : index ≤ 16
   pub room : offset ≤ 16 * index
 
+-- as the search begins
 pub searching-start : (wanted flags types : ℕ) → Searching wanted flags types 0 flags types 0
 searching-start wanted flags types = record { same = refl; bound = omega arith; room = omega arith }
 
 module _ {wanted flags₀ types₀ index flags types offset : ℕ} (s : Searching wanted flags₀ types₀ index flags types offset) where
+  -- a set flag with the wanted number: found
   pub searching-hit : index < 16 → flags % 2 ≡ 1 → index ≡ wanted
       → withIndex wanted (componentsFrom 16 0 flags₀ types₀ 0) ≡ some (componentAt index (types % 16) offset)
   unfolding withIndex
   searching-hit low e h = sym (s .same) ∙ rw (components-set index flags types offset low e, eq-eqb index wanted h)
 
+  -- a set flag with another number: on, behind its component
   pub searching-set : {c : VertexComponent} {next : ℕ} → index < 16 → flags % 2 ≡ 1 → c ≡ componentAt index (types % 16) offset → (index ≡ wanted → ⊥) → next ≡ offset + c .size
       → Searching wanted flags₀ types₀ (index + 1) (flags / 2) (types / 16) next
   unfolding withIndex
@@ -78,6 +78,7 @@ module _ {wanted flags₀ types₀ index flags types offset : ℕ} (s : Searchin
         room = omega (arith, component-small (types % 16) is, s .room);
       }
 
+  -- a flag that is not set: on
   pub searching-clear : {next : ℕ} → index < 16 → (flags % 2 ≡ 1 → ⊥) → next ≡ offset → Searching wanted flags₀ types₀ (index + 1) (flags / 2) (types / 16) next
   searching-clear low e n = record {
     same = rw n (rw (components-clear index flags types offset low e) at (s .same));
@@ -85,6 +86,7 @@ module _ {wanted flags₀ types₀ index flags types offset : ℕ} (s : Searchin
     room = omega (arith, s .room);
   }
 
+  -- past the last flag: there is none
   pub searching-end : 16 ≤ index → withIndex wanted (componentsFrom 16 0 flags₀ types₀ 0) ≡ none
   unfolding withIndex
   searching-end h = sym (s .same) ∙ rw (components-end index flags types offset h)
@@ -100,10 +102,12 @@ pub record Filling (all items : List VertexComponent) (count index flags types o
   pub bound : index ≤ 16
   pub room : offset ≤ 16 * index
 
+-- as the filling begins
 pub filling-start : (flags types : ℕ) {c : VertexComponent} → c ≡ emptyComponent → Filling (componentsFrom 16 0 flags types 0) (replicate 16 c) 0 0 flags types 0
 filling-start flags types e = record { whole = refl; rest = rw e; same = refl; few = omega arith; bound = omega arith; room = omega arith }
 
 module _ {all items : List VertexComponent} {count index flags types offset : ℕ} (f : Filling all items count index flags types offset) where
+  -- a set flag: its component is the next item
   pub filling-set : {c : VertexComponent} {items′ : List VertexComponent} {count′ next : ℕ} → index < 16 → flags % 2 ≡ 1 → c ≡ componentAt index (types % 16) offset → items′ ≡ set items count c
       → count′ ≡ count + 1 → next ≡ offset + c .size → Filling all items′ count′ (index + 1) (flags / 2) (types / 16) next
   filling-set {c} low e is i n o =
@@ -120,6 +124,7 @@ module _ {all items : List VertexComponent} {count index flags types offset : �
         room = omega (arith, component-small (types % 16) is, f .room);
       }
 
+  -- a flag that is not set: no item
   pub filling-clear : {items′ : List VertexComponent} {count′ next : ℕ} → index < 16 → (flags % 2 ≡ 1 → ⊥) → items′ ≡ items → count′ ≡ count → next ≡ offset
       → Filling all items′ count′ (index + 1) (flags / 2) (types / 16) next
   filling-clear low e i n o = record {
@@ -131,6 +136,7 @@ module _ {all items : List VertexComponent} {count index flags types offset : �
     room = omega (arith, f .room);
   }
 
+  -- past the last flag: the components are all there
   pub filling-end : 16 ≤ index → _≡_ {A = ComponentList} (record { items = items; count = count }) (componentList all)
   unfolding componentList
   filling-end h =

@@ -1,18 +1,19 @@
--- The 16 bytes of a declaration: written by five puts, read back, and written again as they were read.
+-- The 16 bytes of a declaration, written and read back, read and written back; the widths of its numbers; its id.
 use mathlib.Core.Path.{_≡_, refl, sym, ap, _∙_}
 use mathlib.Core.Bool.{Bool, true, false, cond}
 use mathlib.Core.List.{List, [], _∷_, _++_}
 use Prim.Native.Nat.{ℕ, zero, suc, _+_, _*_, _-_, _/_, _%_, _^_, _≤_, _<_}
-use native.Mathlib.Nat.{add-assoc, add-zero, zero-add}
+use native.Mathlib.Nat.{add-zero, one-le-pow}
 use native.Mathlib.Omega.{arith}
+use borrow.Author.Tests.{leb-true}
 use lib.Dec.{lit<}
 use lib.ListN.{length, getD, take, drop}
 use lib.Seq.{getD-drop}
 use Rattle.sections.specs.Edit.{part, overwrite, fits, Edited}
 use Rattle.sections.specs.Le.{le, bytes, field}
-use Rattle.sections.proofs.EditLaws.{edited-fits, overwrite-all, overwrite-length, overwrite-then, part-add, part-getD, part-length, part-part, part-same}
-use Rattle.sections.proofs.LeLaws.{bytes-le, field-in, field-out, le-bytes, length-bytes}
-use Rattle.vertices.specs.Declaration.{declarationAt, declarationBytes, idFrom, InWidth, odd}
+use Rattle.sections.proofs.EditLaws.{edited-fits, overwrite-all, overwrite-length, overwrite-then, part-add, part-length, part-part, part-same}
+use Rattle.sections.proofs.LeLaws.{bytes-le, field-in, le-bound, le-bytes}
+use Rattle.vertices.specs.Declaration.{declarationAt, declarationBytes, idFrom, InWidth, odd, positionOnly}
 use Rattle.vertices.specs.declared.declaration.VertexDeclaration.{VertexDeclaration}
 
 -- ---- writing
@@ -79,6 +80,32 @@ unfolding declarationAt declarationBytes
 declaration-written-back s at f h =
     let b : (k i : ℕ) → i + k ≤ 16 → bytes k (field k s (at + i)) ≡ part s (at + i) k = λ k i l. field-bytes k s (at + i) f (omega arith) in
     rw (field-bytes 4 s at f (omega arith), b 2 4 (omega arith), b 1 6 (omega arith), b 1 7 (omega arith), b 8 8 (omega arith), ← part-add s at 4 2, ← part-add s at 6 1, ← part-add s at 7 1, ← part-add s at 8 8)
+
+-- ---- widths
+
+-- a field of bytes fits its width
+pub field-bound : (k : ℕ) (s : List ℕ) (at : ℕ) → ((i : ℕ) → getD s i 0 < 256) → field k s at < 256 ^ k
+unfolding field
+field-bound k s at f = whether (fits s at k) refl
+  where
+    whether : (b : Bool) → fits s at k ≡ b → cond b (le (part s at k)) 0 < 256 ^ k
+    whether true e = rw (part-length s at k (leb-true (at + k) (length s) e)) at (le-bound (part s at k) (part-below s at k f))
+    whether false e = one-le-pow k 256 (lit< tt)
+
+-- the numbers of a declaration that was read from bytes fit their widths
+pub declaration-in-width : (s : List ℕ) (at : ℕ) → ((i : ℕ) → getD s i 0 < 256) → InWidth (declarationAt s at)
+unfolding declarationAt
+declaration-in-width s at f = record {
+  flags = field-bound 4 s at f;
+  stride = field-bound 2 s (at + 4) f;
+  unknown = field-bound 1 s (at + 6) f;
+  count = field-bound 1 s (at + 7) f;
+  types = field-bound 8 s (at + 8) f;
+}
+
+-- and so do those of a position alone
+pub position-in-width : (stride : ℕ) → stride < 256 ^ 2 → InWidth (positionOnly stride)
+position-in-width stride h = record { flags = lit< tt; stride = h; unknown = lit< tt; count = lit< tt; types = lit< tt }
 
 -- ---- the id
 

@@ -1,11 +1,11 @@
 -- Laws of component types and semantics.
-use mathlib.Core.Path.{_≡_, refl, sym, ap, _∙_}
+use mathlib.Core.Path.{_≡_, refl, sym, _∙_}
 use mathlib.Core.List.{List, [], _∷_}
 use Prim.Native.Nat.{ℕ, zero, suc, _+_, _≤_}
 use native.Mathlib.Nat.{zero-add}
 use native.Mathlib.Omega.{arith}
 use lib.ListN.{getD, List·getD-eq-default, List·getD-map}
-use Rattle.vertices.specs.Types.{namedTypes, componentType, nibbleOf, sizeOf, countOf, namedSemantics, semanticOf}
+use Rattle.vertices.specs.Types.{namedTypes, componentType, nibbleOf, sizeOf, namedSemantics, semanticOf}
 use Rattle.vertices.specs.declared.types.VertexComponentType.{VertexComponentType}
 use Rattle.vertices.specs.declared.types.VertexComponentType.the-variants.{Nothing, Half2, Float, Half4, FloatUnknown, Float2, Float3, Float4, UByte4, Colour, Rgba8Snorm, Unknown}
 use Rattle.vertices.specs.declared.types.VertexSemantic.the-variants.{Unknown as UnknownSemantic}

@@ -17,10 +17,11 @@ use Rattle.vertices.specs.declared.declaration.FoundComponent.the-varian
 
 -- ---- 16 bytes
 
--- flags u32, stride u16, unknown u8, count u8, types u64
+-- the declaration at a place: flags u32, stride u16, unknown u8, count u8, types u64
 unfoldable pub declarationAt : List ℕ → ℕ → VertexDeclaration
 declarationAt s at = record { flags = field 4 s at; stride = field 2 s (at + 4); «unknown_6h» = field 1 s (at + 6); count = field 1 s (at + 7); types = field 8 s (at + 8) }
 
+-- its 16 bytes
 unfoldable pub declarationBytes : VertexDeclaration → List ℕ
 declarationBytes d = bytes 4 (d .flags) ++ bytes 2 (d .stride) ++ bytes 1 (d .«unknown_6h») ++ bytes 1 (d .count) ++ bytes 8 (d .types)
 
@@ -71,17 +72,20 @@ unfoldable pub sizes : List VertexComponent → ℕ
 sizes [] = 0
 sizes (c ∷ cs) = c .size + sizes cs
 
+-- the bytes of all components together
 unfoldable pub totalSize : VertexDeclaration → ℕ
 totalSize d = sizes (componentsOf d)
 
--- the first component with a semantic's number
+-- the first component with this semantic number
 unfoldable pub withIndex : ℕ → List VertexComponent → Option VertexComponent
 withIndex index [] = none
 withIndex index (c ∷ cs) = cond (eqb (c .«semantic_index») index) (some c) (withIndex index cs)
 
+-- the component of a semantic's number, where its flag is one of the 16 and set
 unfoldable pub componentOf : VertexDeclaration → ℕ → Option VertexComponent
 componentOf d index = withIndex index (componentsOf d)
 
+-- that as the code's answer
 abbrev pub foundComponent : Option VertexComponent → FoundComponent
 foundComponent none = Missing
 foundComponent (some c) = Component c
@@ -93,5 +97,6 @@ unfoldable pub idFrom : ℕ → ℕ → ℕ → ℕ
 idFrom zero flags types = 0
 idFrom (suc k) flags types = cond (odd flags) (types % 16) 0 + 16 * idFrom k (flags / 2) (types / 16)
 
+-- the id of a declaration: the nibbles of the flags 0 to 15
 abbrev pub declarationId : VertexDeclaration → ℕ
 declarationId d = idFrom 16 (d .flags) (d .types)

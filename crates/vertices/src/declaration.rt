@@ -1,8 +1,6 @@
 // Vertex declarations: 16 bytes that say which components a vertex has, and of which types.
 ghost use mathlib.Core.Path.{_≡_};
-ghost use Prim.Native.Nat.{_+_, _*_, _≤_, _<_};
 ghost use Rattle.sections.specs.Edit.{fits, Edited};
-ghost use Rattle.vertices.specs.Types.{sizeOf, componentType};
 ghost use Rattle.vertices.specs.Declaration.{declarationAt, declarationBytes, positionOnly, componentAt, componentList, componentsOf, componentOf, foundComponent, idFrom, declarationId, emptyComponent};
 use crate::types::VertexComponent;
 use crate::types::VertexComponentType;
@@ -101,10 +99,10 @@ impl VertexDeclaration {
         let mut offset: u16 = 0;
         while index < 16 {
             if flags % 2 == 1 {
-                let component = component_at(index, (types % 16) as u8, offset);
-                items[count] = component;
+                let item = component_at(index, (types % 16) as u8, offset);
+                items[count] = item;
                 count += 1;
-                offset += component.size as u16;
+                offset += item.size as u16;
             }
             index += 1;
             flags = flags / 2;

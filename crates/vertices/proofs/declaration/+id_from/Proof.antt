@@ -1,10 +1,9 @@
 -- Each call adds the lowest flag's digit to 16 times the id of the others; an id is at most the types, so that it fits. The flags left fall.
-use Prim.Native.Nat.{ℕ, _-_, _/_, _%_, _<_}
+use Prim.Native.Nat.{ℕ, _-_, _/_, _<_}
 use native.Mathlib.Omega.{arith}
 use borrow.Author.Tests.{eq-eqb, ne-eqb}
 use borrow.Fn.Kinds.{In}
 use borrow.Fn.PlainCycle.{Measures, is, falls, and}
-use Rattle.vertices.specs.Declaration.{idFrom}
 use Rattle.vertices.proofs.DeclarationLaws.{id-bound, id-next, id-none}
 use Rattle.vertices.proofs.declaration.id_from.Reads as id-from
 use Rattle.vertices.proofs.declaration.id_from.Kinds as id-from-kinds

@@ -1,14 +1,12 @@
 -- Where 16 bytes fit, each put is right behind the one before it, so that together they are one edit.
-use mathlib.Core.Path.{_≡_, refl}
-use Prim.Native.Nat.{_+_, _≤_, _<_}
+use mathlib.Core.Path.{refl}
+use Prim.Native.Nat.{_+_, _≤_}
 use native.Mathlib.Omega.{arith}
 use borrow.Author.Needs.{needs}
 use borrow.Author.Tests.{le-leb, lt-leb}
 use lib.ListN.{length}
-use Rattle.sections.specs.Edit.{overwrite}
 use Rattle.sections.specs.Le.{bytes}
 use Rattle.sections.proofs.EditLaws.{edited-fits, edited-no, edited-yes}
-use Rattle.sections.proofs.LeLaws.{length-bytes}
 use Rattle.vertices.specs.Declaration.{declarationBytes}
 use Rattle.vertices.proofs.DeclarationLaws.{edited-behind}
 use Rattle.vertices.proofs.declaration.write_declaration.Statement.{statement}
