@@ -3,6 +3,7 @@ mod attribute;
 mod buffer;
 mod declaration;
 mod halves;
+mod known;
 mod normalised;
 mod runs;
 mod types;
@@ -10,6 +11,7 @@ mod values;
 
 pub use attribute::VertexAttribute;
 pub use attribute::VertexAttributeValue;
+pub use attribute::as_rgba8;
 pub use buffer::FoundBuffer;
 pub use buffer::StoredDeclaration;
 pub use buffer::VertexBuffer;
