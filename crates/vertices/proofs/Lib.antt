@@ -24,3 +24,4 @@ pub mod DeclarationLaws
 pub mod ComponentWalk
 pub mod ComponentLaws
 pub mod BufferLaws
+pub mod EncodeLaws
