@@ -24,4 +24,5 @@ pub mod DeclarationLaws
 pub mod ComponentWalk
 pub mod ComponentLaws
 pub mod BufferLaws
+pub mod AttributeLaws
 pub mod EncodeLaws
