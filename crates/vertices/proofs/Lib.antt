@@ -25,3 +25,5 @@ pub mod ComponentWalk
 pub mod ComponentLaws
 pub mod BufferLaws
 pub mod SubnormalLaws
+pub mod AttributeLaws
+pub mod EncodeLaws

@@ -1,12 +1,20 @@
 // Vertices: floats carried as their bits, and how vertex data stores them.
+mod attribute;
 mod buffer;
 mod declaration;
+mod encode;
 mod halves;
+mod known;
 mod normalised;
 mod runs;
 mod types;
 mod values;
 
+pub use attribute::VertexAttribute;
+pub use attribute::VertexAttributeValue;
+pub use attribute::VertexAttributes;
+pub use attribute::as_rgba8;
+pub use attribute::read_vertex_attributes;
 pub use buffer::FoundBuffer;
 pub use buffer::StoredDeclaration;
 pub use buffer::VertexBuffer;
@@ -17,6 +25,8 @@ pub use declaration::FoundComponent;
 pub use declaration::VertexDeclaration;
 pub use declaration::read_declaration;
 pub use declaration::write_declaration;
+pub use encode::encode_value;
+pub use encode::has_shape;
 pub use halves::f16_to_f32;
 pub use halves::f32_to_f16;
 pub use normalised::f32_to_snorm8;

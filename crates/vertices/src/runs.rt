@@ -12,6 +12,8 @@ ghost use Rattle.vertices.specs.Half.{decoded, f16ToF32, f32ToF16};
 ghost use Rattle.vertices.specs.Regular.{irregularHalf, irregularFloat};
 ghost use Rattle.vertices.specs.Runs.{numbers, run, converted, Converted};
 use crate::halves::f32_to_f16;
+use crate::known::u16_at;
+use crate::known::u32_at;
 
 const BLOCK: usize = 64;
 
@@ -314,36 +316,7 @@ fn float_of_subnormal(rest: u32) -> u32
     f32::to_bits(rest as f32) - 0x0C00_0000
 }
 
-// Fields that are known to fit. Each is read byte by byte: the compiler makes one load of that.
-
-fn wide_u16(b: u8) -> u16
-    ensures { λ r. ⌜ (r ≡ b) × (r < 256) ⌝ }
-{
-    b as u16
-}
-
-fn wide_u32(b: u8) -> u32
-    ensures { λ r. ⌜ (r ≡ b) × (r < 256) ⌝ }
-{
-    b as u32
-}
-
-fn u16_at(b: &[u8], off: usize) -> u16
-    requires { ⌜ off + 2 ≤ length (now b) ⌝ }
-    ensures { λ r. ⌜ r ≡ le (part (now (b .entry)) off 2) ⌝ }
-{
-    wide_u16(b[off]) + 256 * wide_u16(b[off + 1])
-}
-
-fn u32_at(b: &[u8], off: usize) -> u32
-    requires { ⌜ off + 4 ≤ length (now b) ⌝ }
-    ensures { λ r. ⌜ r ≡ le (part (now (b .entry)) off 4) ⌝ }
-{
-    wide_u32(b[off])
-        + 256 * wide_u32(b[off + 1])
-        + 65536 * wide_u32(b[off + 2])
-        + 16777216 * wide_u32(b[off + 3])
-}
+// Fields that are known to fit.
 
 fn set_u16(b: &mut [u8], off: usize, v: u16)
     requires { ⌜ off + 2 ≤ length (now b) ⌝ }

@@ -2,8 +2,8 @@
 use borrow.Author.Needs.{needs}
 use native.Mathlib.Omega.{arith}
 use Rattle.vertices.proofs.RunLaws.{le-four}
-use Rattle.vertices.proofs.runs.u32_at.Statement.{statement}
-use Rattle.vertices.proofs.runs.u32_at.Tie as tie
+use Rattle.vertices.proofs.known.u32_at.Statement.{statement}
+use Rattle.vertices.proofs.known.u32_at.Tie as tie
 
 pub u32-at-spec : {M : Type 1} → statement M
 u32-at-spec =
