@@ -27,3 +27,6 @@ pub mod BufferLaws
 pub mod SubnormalLaws
 pub mod AttributeLaws
 pub mod EncodeLaws
+pub mod UnifiedBytes
+pub mod UnifiedChecks
+pub mod UnifiedLaws
