@@ -1,15 +1,13 @@
 -- Laws of attributes: types without bytes, and what the loop over the components keeps.
 use mathlib.Core.Path.{_≡_, refl, sym, ap, _∙_}
-use mathlib.Core.Bool.{Bool, true, false, cond}
+use mathlib.Core.Bool.{true, false}
 use mathlib.Core.List.{List, [], _∷_, _++_, append-nil, map}
 use Prim.Native.Nat.{ℕ, suc, _+_, _-_, _≤_, _<_}
 use native.Mathlib.Numerals.{add-one}
 use native.Mathlib.Omega.{arith}
 use borrow.Author.Tests.{leb-true, ne-eqb}
-use lib.Dec.{eqb}
 use lib.ListN.{length, take, drop, getD, set, replicate, length-map, length-set, take-append-drop, drop-of-length-le}
 use lib.Seq.{append-snoc, drop-cons, drop-drop, drop-set-lt, take-at, take-suc-set}
-use Rattle.sections.specs.Edit.{fits}
 use Rattle.vertices.specs.Types.{componentType, sizeOf}
 use Rattle.vertices.specs.Declaration.{componentList, componentsFrom, componentsOf, emptyComponent, positionOnly}
 use Rattle.vertices.specs.Attribute.{valueAt, inside, allInside, attributeAt, emptyAttribute, attributeList, attributesAt, attributesOf}

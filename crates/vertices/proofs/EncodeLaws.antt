@@ -22,7 +22,7 @@ use Rattle.vertices.specs.declared.attribute.VertexAttributeValue.{Verte
 use Rattle.vertices.specs.declared.attribute.VertexAttributeValue.the-variants.{One, Two, Three, Four, Bytes, Unsupported}
 use Rattle.vertices.proofs.HalfLaws.{f32-fits}
 use Rattle.vertices.proofs.NormalisedFits.{f32ToSnorm8-fits}
-use Rattle.vertices.proofs.RunLaws.{length-run, run-append, run-one, numbers-at, numbers-run}
+use Rattle.vertices.proofs.RunLaws.{length-run, run-append, numbers-at, numbers-run}
 
 -- ---- how many bytes
 

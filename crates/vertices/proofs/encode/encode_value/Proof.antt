@@ -1,5 +1,5 @@
 -- `encode_value`: refused where the shape or the room is not there; else all the bytes are written.
-use mathlib.Core.Path.{_≡_, sym, _∙_}
+use mathlib.Core.Path.{sym, _∙_}
 use Prim.Native.Nat.{_+_}
 use native.Mathlib.Omega.{arith}
 use borrow.Author.Needs.{needs}

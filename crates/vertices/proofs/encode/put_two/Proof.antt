@@ -1,7 +1,5 @@
 -- `put_two`: the second number stands right behind the first.
 use borrow.Author.Needs.{needs}
-use native.Mathlib.Omega.{arith}
-use Prim.Native.Nat.{_+_}
 use Rattle.vertices.proofs.EncodeLaws.{two-join}
 use Rattle.vertices.proofs.encode.put_two.Statement.{statement}
 use Rattle.vertices.proofs.encode.put_two.Tie as tie
