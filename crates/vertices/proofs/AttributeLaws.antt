@@ -8,9 +8,9 @@ use native.Mathlib.Omega.{arith}
 use borrow.Author.Tests.{leb-true, ne-eqb}
 use lib.ListN.{length, take, drop, getD, set, replicate, length-map, length-set, take-append-drop, drop-of-length-le}
 use lib.Seq.{append-snoc, drop-cons, drop-drop, drop-set-lt, take-at, take-suc-set}
-use Rattle.vertices.specs.Types.{componentType, sizeOf}
-use Rattle.vertices.specs.Declaration.{componentList, componentsFrom, componentsOf, emptyComponent, positionOnly}
-use Rattle.vertices.specs.Attribute.{valueAt, inside, allInside, attributeAt, emptyAttribute, attributeList, attributesAt, attributesOf}
+use Rattle.vertices.specs.Types.{sizeOf}
+use Rattle.vertices.specs.Declaration.{componentList, emptyComponent}
+use Rattle.vertices.specs.Attribute.{valueAt, componentInside, allInside, attributeAt, emptyAttribute, attributeList, attributesAt}
 use Rattle.vertices.specs.declared.types.VertexComponent.{VertexComponent}
 use Rattle.vertices.specs.declared.types.VertexComponentType.{VertexComponentType}
 use Rattle.vertices.specs.declared.types.VertexComponentType.the-variants.{Nothing, Half2, Float, Half4, FloatUnknown, Float2, Float3, Float4, UByte4, Colour, Rgba8Snorm, Unknown}
@@ -21,7 +21,7 @@ use Rattle.vertices.specs.declared.attribute.VertexAttributeValue.{Verte
 use Rattle.vertices.specs.declared.attribute.VertexAttributeValue.the-variants.{Unsupported}
 
 -- a type without bytes has no value
-pub value-none : (t : VertexComponentType) (s : List ℕ) (at : ℕ) → sizeOf t ≡ 0 → Unsupported ≡ valueAt t s at
+pub value-none : (t : VertexComponentType) (s : List ℕ) (at : ℕ) → sizeOf t ≡ 0 → valueAt t s at ≡ Unsupported
 value-none Nothing s at h = refl
 value-none Half2 s at h = absurd (omega arith)
 value-none Float s at h = absurd (omega arith)
@@ -36,14 +36,14 @@ value-none Rgba8Snorm s at h = absurd (omega arith)
 value-none (Unknown n) s at h = refl
 
 -- a component that has bytes and is inside ends inside the data
-pub inside-ends : (s : List ℕ) (base : ℕ) (c : VertexComponent) → inside s base c ≡ true → (sizeOf (c .«component_type») ≡ 0 → ⊥) → base + c .offset + sizeOf (c .«component_type») ≤ length s
+pub inside-ends : (s : List ℕ) (base : ℕ) (c : VertexComponent) → componentInside (length s) base c ≡ true → (sizeOf (c .«component_type») ≡ 0 → ⊥) → base + c .offset + sizeOf (c .«component_type») ≤ length s
 inside-ends s base c h n = leb-true (base + c .offset + sizeOf (c .«component_type»)) (length s) (rw (ne-eqb (sizeOf (c .«component_type»)) 0 n) at h)
 
 -- the attribute of a component
 module _ (s : List ℕ) (base : ℕ) (c : VertexComponent) where
   -- unsupported where its type has no bytes
   pub attribute-none : sizeOf (c .«component_type») ≡ 0 → _≡_ {A = VertexAttribute} (record { component = c; value = Unsupported }) (attributeAt s base c)
-  attribute-none h = ap (λ (v : VertexAttributeValue). record { component = c; value = v }) (value-none (c .«component_type») s (base + c .offset) h)
+  attribute-none h = ap (λ (v : VertexAttributeValue). record { component = c; value = v }) (sym (value-none (c .«component_type») s (base + c .offset) h))
 
   -- with the value of its type at its place
   pub attribute-some : {v : VertexAttributeValue} → v ≡ valueAt (c .«component_type») s (base + c .offset) → _≡_ {A = VertexAttribute} (record { component = c; value = v }) (attributeAt s base c)
@@ -64,7 +64,7 @@ pub record Reading (cs : List VertexComponent) (s : List ℕ) (base : ℕ) (item
   pub whole : take i items ++ map (attributeAt s base) (drop i cs) ≡ map (attributeAt s base) cs
   pub rest : drop i items ≡ replicate (16 - i) emptyAttribute
   pub same : length items ≡ 16
-  pub checked : allInside s base (drop i cs) ≡ allInside s base cs
+  pub checked : allInside (length s) base (drop i cs) ≡ allInside (length s) base cs
   pub bound : i ≤ length cs
   pub few : length cs ≤ 16
 
@@ -81,7 +81,7 @@ reading-list cs s base e f h =
 
 module _ {cs : List VertexComponent} {s : List ℕ} {base : ℕ} {items : List VertexAttribute} {i : ℕ} (r : Reading cs s base items i) (d : VertexComponent) (low : i < length cs) where
   -- a component inside: its attribute is the next item
-  pub reading-one : {c : VertexComponent} {a : VertexAttribute} → c ≡ getD cs i d → inside s base c ≡ true → a ≡ attributeAt s base c → Reading cs s base (set items i a) (i + 1)
+  pub reading-one : {c : VertexComponent} {a : VertexAttribute} → c ≡ getD cs i d → componentInside (length s) base c ≡ true → a ≡ attributeAt s base c → Reading cs s base (set items i a) (i + 1)
   unfolding allInside
   reading-one {c} {a} e h f =
       let l : i < length items = omega (arith, r .same, r .few) in
@@ -97,11 +97,11 @@ module _ {cs : List VertexComponent} {s : List ℕ} {base : ℕ} {items : List V
       }
 
   -- a component that is not inside: refused
-  pub reading-refused : {c : VertexComponent} {l : VertexAttributes} → c ≡ getD cs i d → inside s base c ≡ false → l ≡ attributeList 9 [] → l ≡ attributesAt s base cs
+  pub reading-refused : {c : VertexComponent} {l : VertexAttributes} → c ≡ getD cs i d → componentInside (length s) base c ≡ false → l ≡ attributeList 9 [] → l ≡ attributesAt s base cs
   unfolding allInside attributesAt
   reading-refused {c} e h f =
       let n : drop i cs ≡ c ∷ drop (suc i) cs = rw e (drop-cons cs i d low) in
-      let no : allInside s base cs ≡ false = sym (rw (n, h) at (r .checked)) in
+      let no : allInside (length s) base cs ≡ false = sym (rw (n, h) at (r .checked)) in
       rw no f
 
 -- past the last component: all the attributes are there
@@ -111,23 +111,6 @@ unfolding allInside attributesAt attributeList
 reading-end {cs} {s} {base} {items} {i} {count} r e h =
     let n : i ≡ length cs = omega (arith, r .bound) in
     let d : drop i cs ≡ [] = drop-of-length-le cs {i = i} (omega arith) in
-    let yes : allInside s base cs ≡ true = sym (rw d at (r .checked)) in
+    let yes : allInside (length s) base cs ≡ true = sym (rw d at (r .checked)) in
     let t : take i items ≡ map (attributeAt s base) cs = sym (append-nil (take i items)) ∙ rw d at (r .whole) in
     rw (yes, length-map, e, ← n, ← t, ← r .rest, take-append-drop)
-
--- ---- a test vector of document 01: two positions, stride 11, in 22 bytes
-
--- the first is read
-pub stride-eleven-first : (attributesOf (replicate 22 0) 11 2 (positionOnly 11) 0) .refusal ≡ 0
-unfolding attributesOf attributesAt allInside attributeList componentsOf componentsFrom componentType
-stride-eleven-first = refl
-
--- the second is refused by check 9
-pub stride-eleven-second : (attributesOf (replicate 22 0) 11 2 (positionOnly 11) 1) .refusal ≡ 9
-unfolding attributesOf attributesAt allInside attributeList componentsOf componentsFrom componentType
-stride-eleven-second = refl
-
--- there is no third: check 8
-pub stride-eleven-third : (attributesOf (replicate 22 0) 11 2 (positionOnly 11) 2) .refusal ≡ 8
-unfolding attributesOf attributesAt allInside attributeList componentsOf componentsFrom componentType
-stride-eleven-third = refl

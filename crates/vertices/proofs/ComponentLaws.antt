@@ -27,7 +27,7 @@ module _ (P : ℕ → ℕ → ℕ → List VertexComponent → Type 0)
     (empty : (index offset : ℕ) → P 0 index offset [])
     (clear : (k index offset : ℕ) (cs : List VertexComponent) → P k (index + 1) offset cs → P (suc k) index offset cs)
     (front : (k index nibble offset : ℕ) (cs : List VertexComponent) → P k (index + 1) (offset + sizeOf (componentType nibble)) cs → P (suc k) index offset (componentAt index nibble offset ∷ cs)) where
-  by-flags : (k index flags types offset : ℕ) → P k index offset (componentsFrom k index flags types offset)
+  pub by-flags : (k index flags types offset : ℕ) → P k index offset (componentsFrom k index flags types offset)
   unfolding componentsFrom
   by-flags zero index flags types offset = empty index offset
   by-flags (suc k) index flags types offset =

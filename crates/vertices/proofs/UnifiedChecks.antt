@@ -11,10 +11,11 @@ use lib.Dec.{eqb, leb}
 use lib.ListN.{length}
 use Rattle.vertices.specs.Types.{componentType, sizeOf}
 use Rattle.vertices.specs.Declaration.{componentAt, componentsFrom, componentsOf, odd, sizes, totalSize}
-use Rattle.vertices.specs.Unified.{componentInside, allInside, verticesInside}
+use Rattle.vertices.specs.Attribute.{componentInside, allInside}
+use Rattle.vertices.specs.Unified.{verticesInside}
 use Rattle.vertices.specs.declared.types.VertexComponent.{VertexComponent}
 use Rattle.vertices.specs.declared.declaration.VertexDeclaration.{VertexDeclaration}
-use Rattle.vertices.proofs.ComponentLaws.{item, component-within, inside-total}
+use Rattle.vertices.proofs.ComponentLaws.{by-flags, item, component-within, inside-total}
 
 -- ---- the sum of the sizes
 
@@ -61,31 +62,43 @@ product-bound index stride h l =
 abbrev pub Within : List VertexComponent → ℕ → ℕ → Type 0
 Within cs base n = (i : ℕ) → i < length cs → 0 < (item cs i) .size → base + (item cs i) .offset + (item cs i) .size ≤ n
 
-one-true : (n base : ℕ) (c : VertexComponent) → componentInside n base c ≡ true → 0 < c .size → base + c .offset + c .size ≤ n
-one-true n base c e p =
-    let z : eqb (c .size) 0 ≡ false = ne-eqb (c .size) 0 (λ z. omega arith) in
-    leb-true _ _ (rw z at e)
+-- each component has the size of its type
+abbrev Sized : List VertexComponent → Type 0
+Sized cs = (i : ℕ) → i < length cs → (item cs i) .size ≡ sizeOf ((item cs i) .«component_type»)
 
-true-one : (n base : ℕ) (c : VertexComponent) → (0 < c .size → base + c .offset + c .size ≤ n) → componentInside n base c ≡ true
-true-one n base c f =
-    ⊎-elim (λ z. rw (eq-eqb (c .size) 0 z)) (λ p. rw (ne-eqb (c .size) 0 (λ z. omega arith), le-leb (base + c .offset + c .size) n (f p))) (eq-zero-or-pos (c .size))
+sized-front : (k index nibble offset : ℕ) (cs : List VertexComponent) → Sized cs → Sized (componentAt index nibble offset ∷ cs)
+sized-front k index nibble offset cs f zero h = refl
+sized-front k index nibble offset cs f (suc i) h = f i (omega arith)
+
+components-sized : (d : VertexDeclaration) → Sized (componentsOf d)
+unfolding componentsOf
+components-sized d = by-flags (λ k index offset cs. Sized cs) (λ index offset i h. absurd (omega arith)) (λ k index offset cs f. f) sized-front 16 0 (d .flags) (d .types) 0
+
+one-true : (n base : ℕ) (c : VertexComponent) → c .size ≡ sizeOf (c .«component_type») → componentInside n base c ≡ true → 0 < c .size → base + c .offset + c .size ≤ n
+one-true n base c s e p =
+    let z : eqb (c .size) 0 ≡ false = ne-eqb (c .size) 0 (λ z. omega arith) in
+    leb-true _ _ (rw (← s, z) at e)
+
+true-one : (n base : ℕ) (c : VertexComponent) → c .size ≡ sizeOf (c .«component_type») → (0 < c .size → base + c .offset + c .size ≤ n) → componentInside n base c ≡ true
+true-one n base c s f =
+    rw (← s) (⊎-elim (λ z. rw (eq-eqb (c .size) 0 z)) (λ p. rw (ne-eqb (c .size) 0 (λ z. omega arith), le-leb (base + c .offset + c .size) n (f p))) (eq-zero-or-pos (c .size)))
 
 both-true : (a b : Bool) → a && b ≡ true → (a ≡ true) × (b ≡ true)
 both-true true b e = (refl, e)
 both-true false b e = let z : _≡_ {A = ℕ} 0 1 = cc in absurd (omega arith)
 
 -- what the test of one vertex says
-pub all-true : (n base : ℕ) (cs : List VertexComponent) → allInside n base cs ≡ true → Within cs base n
+pub all-true : (n base : ℕ) (cs : List VertexComponent) → Sized cs → allInside n base cs ≡ true → Within cs base n
 unfolding allInside
-all-true n base [] e i h p = absurd (omega arith)
-all-true n base (c ∷ cs) e zero h p = one-true n base c (both-true _ _ e .0) p
-all-true n base (c ∷ cs) e (suc i) h p = all-true n base cs (both-true (componentInside n base c) _ e .1) i (omega arith) p
+all-true n base [] s e i h p = absurd (omega arith)
+all-true n base (c ∷ cs) s e zero h p = one-true n base c (s 0 (omega arith)) (both-true _ _ e .0) p
+all-true n base (c ∷ cs) s e (suc i) h p = all-true n base cs (λ j l. s (suc j) (omega arith)) (both-true (componentInside n base c) _ e .1) i (omega arith) p
 
 -- and when it passes
-pub true-all : (n base : ℕ) (cs : List VertexComponent) → Within cs base n → allInside n base cs ≡ true
+pub true-all : (n base : ℕ) (cs : List VertexComponent) → Sized cs → Within cs base n → allInside n base cs ≡ true
 unfolding allInside
-true-all n base [] f = refl
-true-all n base (c ∷ cs) f = rw (true-one n base c (f 0 (omega arith)), true-all n base cs (λ i h. f (suc i) (omega arith)))
+true-all n base [] s f = refl
+true-all n base (c ∷ cs) s f = rw (true-one n base c (s 0 (omega arith)) (f 0 (omega arith)), true-all n base cs (λ j l. s (suc j) (omega arith)) (λ i h. f (suc i) (omega arith)))
 
 module _ (d : VertexDeclaration) (n stride : ℕ) where
   -- what the test of all vertices says
@@ -94,13 +107,13 @@ module _ (d : VertexDeclaration) (n stride : ℕ) where
   vertices-true zero e k h = absurd (omega arith)
   vertices-true (suc count) e k h =
       let b = both-true (verticesInside d n stride count) _ e in
-      ⊎-elim (λ z. let q : k ≡ count = omega arith in rw q (all-true n (count * stride) (componentsOf d) (b .1))) (λ p. vertices-true count (b .0) k (omega arith)) (eq-zero-or-pos (count - k))
+      ⊎-elim (λ z. let q : k ≡ count = omega arith in rw q (all-true n (count * stride) (componentsOf d) (components-sized d) (b .1))) (λ p. vertices-true count (b .0) k (omega arith)) (eq-zero-or-pos (count - k))
 
   -- and when it passes
   pub true-vertices : (count : ℕ) → ((k : ℕ) → k < count → Within (componentsOf d) (k * stride) n) → verticesInside d n stride count ≡ true
   unfolding verticesInside
   true-vertices zero f = refl
-  true-vertices (suc count) f = rw (true-vertices count (λ k h. f k (omega arith)), true-all n (count * stride) (componentsOf d) (f count (omega arith)))
+  true-vertices (suc count) f = rw (true-vertices count (λ k h. f k (omega arith)), true-all n (count * stride) (componentsOf d) (components-sized d) (f count (omega arith)))
 
   -- ---- by the sum of the sizes
 

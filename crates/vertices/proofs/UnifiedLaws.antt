@@ -12,7 +12,7 @@ use lib.ListN.{length}
 use Rattle.sections.specs.Edit.{overwrite}
 use Rattle.vertices.specs.Types.{sizeOf}
 use Rattle.vertices.specs.Declaration.{componentAt, componentOf, componentsOf, foundComponent, odd}
-use Rattle.vertices.specs.Attribute.{valueAt, asVec2, asVec3, asVec4, asRgba8, white}
+use Rattle.vertices.specs.Attribute.{asVec2, asVec3, asVec4, asRgba8, white}
 use Rattle.vertices.specs.Unified.{asIndices, noIndices, zeroVec2, zeroVec3, zeroVec4, upward, alongX, shown, unifiedVertex, runOf, unifiedRun, verticesInside, stated, Unified}
 use Rattle.vertices.specs.Plan.{planOf, planned, plannedVertex, Inside, Ends, Readable}
 use Rattle.vertices.specs.declared.values.Vec2.{Vec2}
@@ -21,9 +21,7 @@ use Rattle.vertices.specs.declared.values.Vec4.{Vec4}
 use Rattle.vertices.specs.declared.values.Bytes4.{Bytes4}
 use Rattle.vertices.specs.declared.types.VertexComponent.{VertexComponent}
 use Rattle.vertices.specs.declared.types.VertexComponentType.{VertexComponentType}
-use Rattle.vertices.specs.declared.types.VertexComponentType.the-variants.{Nothing, Half2, Float, Half4, FloatUnknown, Float2, Float3, Float4, UByte4, Colour, Rgba8Snorm, Unknown}
 use Rattle.vertices.specs.declared.attribute.VertexAttributeValue.{VertexAttributeValue}
-use Rattle.vertices.specs.declared.attribute.VertexAttributeValue.the-variants.{Unsupported}
 use Rattle.vertices.specs.declared.declaration.VertexDeclaration.{VertexDeclaration}
 use Rattle.vertices.specs.declared.unify.UnifiedVertex.{UnifiedVertex}
 use Rattle.vertices.specs.declared.unify.UnifiedPlan.{UnifiedPlan}
@@ -31,23 +29,6 @@ use Rattle.vertices.specs.declared.unify.UnifyAnswer.{UnifyAnswer}
 use Rattle.vertices.specs.declared.unify.UnifyAnswer.the-variants.{Written, OutsideData, NeedsBytes}
 use Rattle.vertices.proofs.ComponentLaws.{item, component-among, component-is}
 use Rattle.vertices.proofs.UnifiedChecks.{Within, true-vertices, vertices-true}
-
--- ---- values without a size
-
--- a type of size 0 has no value
-pub sizeless-value : (t : VertexComponentType) (s : List ℕ) (at : ℕ) → sizeOf t ≡ 0 → valueAt t s at ≡ Unsupported
-sizeless-value Nothing s at e = refl
-sizeless-value Half2 s at e = absurd (omega arith)
-sizeless-value Float s at e = absurd (omega arith)
-sizeless-value Half4 s at e = absurd (omega arith)
-sizeless-value FloatUnknown s at e = refl
-sizeless-value Float2 s at e = absurd (omega arith)
-sizeless-value Float3 s at e = absurd (omega arith)
-sizeless-value Float4 s at e = absurd (omega arith)
-sizeless-value UByte4 s at e = absurd (omega arith)
-sizeless-value Colour s at e = absurd (omega arith)
-sizeless-value Rgba8Snorm s at e = absurd (omega arith)
-sizeless-value (Unknown n) s at e = refl
 
 -- ---- the plan
 

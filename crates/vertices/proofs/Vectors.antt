@@ -9,8 +9,8 @@ use lib.Ieee.{div, lt, ofInt, toBits}
 use lib.ListN.{replicate}
 use Rattle.vertices.specs.Types.{componentType, semanticOf}
 use Rattle.vertices.specs.Declaration.{positionOnly, componentsFrom, componentsOf}
-use Rattle.vertices.specs.Attribute.{attributesOf}
-use Rattle.vertices.specs.Unified.{allInside, verticesInside}
+use Rattle.vertices.specs.Attribute.{allInside, attributesOf}
+use Rattle.vertices.specs.Unified.{verticesInside}
 use Rattle.vertices.specs.Half.{f16ToF32, f32ToF16}
 use Rattle.vertices.specs.Normalised.{signedByte, atLeast, snorm8ToF32}
 

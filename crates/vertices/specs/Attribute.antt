@@ -2,9 +2,8 @@
 use mathlib.Core.Bool.{Bool, true, cond, _&&_, _||_}
 use mathlib.Core.List.{List, [], _∷_, _++_, map}
 use Prim.Native.Nat.{ℕ, _+_, _*_, _-_}
-use lib.Dec.{eqb, ltb}
+use lib.Dec.{eqb, leb, ltb}
 use lib.ListN.{length, replicate}
-use Rattle.sections.specs.Edit.{fits}
 use Rattle.sections.specs.Le.{field}
 use Rattle.vertices.specs.Half.{f16ToF32}
 use Rattle.vertices.specs.Normalised.{snorm8ToF32, unorm8ToF32, f32ToUnorm8, snormColour8}
@@ -135,14 +134,14 @@ asRgba8 t Unsupported = white
 
 -- ---- the attributes of one vertex, which begins at `base`
 
--- a component has no bytes, or they lie inside the data
-abbrev pub inside : List ℕ → ℕ → VertexComponent → Bool
-inside s base c = eqb (sizeOf (c .«component_type»)) 0 || fits s (base + c .offset) (sizeOf (c .«component_type»))
+-- a component has no bytes, or they end inside n bytes of data
+abbrev pub componentInside : ℕ → ℕ → VertexComponent → Bool
+componentInside n base c = eqb (sizeOf (c .«component_type»)) 0 || leb (base + c .offset + sizeOf (c .«component_type»)) n
 
 -- check 9: every component does
-unfoldable pub allInside : List ℕ → ℕ → List VertexComponent → Bool
-allInside s base [] = true
-allInside s base (c ∷ cs) = inside s base c && allInside s base cs
+unfoldable pub allInside : ℕ → ℕ → List VertexComponent → Bool
+allInside n base [] = true
+allInside n base (c ∷ cs) = componentInside n base c && allInside n base cs
 
 -- a component beside its value
 abbrev pub attributeAt : List ℕ → ℕ → VertexComponent → VertexAttribute
@@ -159,7 +158,7 @@ attributeList refusal items = record { refusal = refusal; items = items ++ repli
 -- the attributes of the vertex that begins at `base`: refused by check 9, or each component in order
 unfoldable pub attributesAt : List ℕ → ℕ → List VertexComponent → VertexAttributes
 unfolding allInside attributeList
-attributesAt s base cs = cond (allInside s base cs) (attributeList 0 (map (attributeAt s base) cs)) (attributeList 9 [])
+attributesAt s base cs = cond (allInside (length s) base cs) (attributeList 0 (map (attributeAt s base) cs)) (attributeList 9 [])
 
 -- the attributes of the vertex `index` of `count`: refused by check 8 where there is none
 unfoldable pub attributesOf : List ℕ → ℕ → ℕ → VertexDeclaration → ℕ → VertexAttributes

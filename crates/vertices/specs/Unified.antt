@@ -1,15 +1,14 @@
 -- Unified vertices (document 01, "A unified vertex is one struct of floats and bytes, 84 bytes when written out in field order"; checks 9 and 10).
 use mathlib.Core.Path.{_≡_}
-use mathlib.Core.Bool.{Bool, true, false, cond, _&&_, _||_}
+use mathlib.Core.Bool.{Bool, true, false, cond, _&&_}
 use mathlib.Core.List.{List, [], _∷_, _++_}
 use mathlib.Core.Option.{Option, none, some}
 use Prim.Native.Nat.{ℕ, zero, suc, _+_, _*_}
-use lib.Dec.{eqb, leb}
 use lib.ListN.{length}
 use Rattle.sections.specs.Edit.{overwrite, fits}
 use Rattle.vertices.specs.Declaration.{componentOf, componentsOf}
 use Rattle.vertices.specs.Runs.{run}
-use Rattle.vertices.specs.Attribute.{valueAt, asVec2, asVec3, asVec4, asRgba8, white, zero32, one32}
+use Rattle.vertices.specs.Attribute.{allInside, valueAt, asVec2, asVec3, asVec4, asRgba8, white, zero32, one32}
 use Rattle.vertices.specs.declared.values.Vec2.{Vec2}
 use Rattle.vertices.specs.declared.values.Vec3.{Vec3}
 use Rattle.vertices.specs.declared.values.Vec4.{Vec4}
@@ -116,16 +115,7 @@ unifiedRun d s stride count = runOf (λ (index : ℕ). unifiedVertex d s (index 
 
 -- ---- check 9
 
--- a component of nonzero size ends inside n bytes, in the vertex at `base`
-abbrev pub componentInside : ℕ → ℕ → VertexComponent → Bool
-componentInside n base c = eqb (c .size) 0 || leb (base + c .offset + c .size) n
-
--- and so do all components of a list
-unfoldable pub allInside : ℕ → ℕ → List VertexComponent → Bool
-allInside n base [] = true
-allInside n base (c ∷ cs) = componentInside n base c && allInside n base cs
-
--- and so do those of all vertices
+-- all components of all vertices end inside n bytes of data
 unfoldable pub verticesInside : VertexDeclaration → ℕ → ℕ → ℕ → Bool
 verticesInside d n stride zero = true
 verticesInside d n stride (suc count) = verticesInside d n stride count && allInside n (count * stride) (componentsOf d)

@@ -7,7 +7,7 @@ ghost use lib.ListN.{length};
 ghost use Rattle.vertices.specs.Types.{sizeOf};
 ghost use Rattle.vertices.specs.Normalised.{unorm8ToF32};
 ghost use Rattle.vertices.specs.Declaration.{componentsOf};
-ghost use Rattle.vertices.specs.Attribute.{inside, attributeAt, emptyAttribute, attributeList, attributesAt, attributesOf, floatAt, halfAt, snormAt, twoAt, threeAt, fourAt, bytesAt, valueAt, asVec2, asVec3, asVec4, colourOf, asRgba8};
+ghost use Rattle.vertices.specs.Attribute.{componentInside, attributeAt, emptyAttribute, attributeList, attributesAt, attributesOf, floatAt, halfAt, snormAt, twoAt, threeAt, fourAt, bytesAt, valueAt, asVec2, asVec3, asVec4, colourOf, asRgba8};
 use crate::declaration::VertexDeclaration;
 use crate::halves::f16_to_f32;
 use crate::known::u8_at;
@@ -250,7 +250,7 @@ fn attributes_at(data: &[u8], base: usize, declaration: VertexDeclaration) -> Ve
 
 fn component_inside(data: &[u8], base: usize, component: VertexComponent) -> bool
     requires { ⌜ base < 281474976710656 ⌝ }
-    ensures { λ r. ⌜ r ≡ inside (now («data» .entry)) base component ⌝ }
+    ensures { λ r. ⌜ r ≡ componentInside (length (now («data» .entry))) base component ⌝ }
 {
     let component_type = component.component_type;
     let size = component_type.size_in_bytes() as usize;
@@ -261,7 +261,7 @@ fn component_inside(data: &[u8], base: usize, component: VertexComponent) -> boo
 }
 
 fn attribute_at(data: &[u8], base: usize, component: VertexComponent) -> VertexAttribute
-    requires { ⌜ (base < 281474976710656) × (inside (now «data») base component ≡ true) ⌝ }
+    requires { ⌜ (base < 281474976710656) × (componentInside (length (now «data»)) base component ≡ true) ⌝ }
     ensures { λ r. ⌜ r ≡ attributeAt (now («data» .entry)) base component ⌝ }
 {
     let component_type = component.component_type;

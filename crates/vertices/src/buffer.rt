@@ -1,9 +1,7 @@
 // Locating the vertices of a geometry: the layouts of a vertex buffer block, tried in order, then the geometry's own pointer.
 ghost use mathlib.Core.Path.{_≡_};
-ghost use lib.ListN.{length};
-ghost use Prim.Native.Nat.{_≤_};
 ghost use Rattle.sections.specs.Address.{sections};
-ghost use Rattle.vertices.specs.Buffer.{layoutNumber, vertexData, storedDeclaration, foundAt, foundBuffer, legacyAt, plainAt, blockBuffer, vertexBufferAt, orElse};
+ghost use Rattle.vertices.specs.Buffer.{layoutNumber, vertexData, storedDeclaration, foundAt, foundBuffer, legacyAt, plainAt, blockBuffer, vertexBufferAt};
 use crate::declaration::VertexDeclaration;
 use crate::declaration::read_declaration;
 use sections::Located;
