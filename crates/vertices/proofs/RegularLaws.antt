@@ -7,7 +7,7 @@ use borrow.Author.Tests.{eq-eqb, le-ltb, lt-ltb, ne-eqb}
 use Rattle.vertices.specs.Half.{decoded, encoded, f16ToF32, f32ToF16, roundEven}
 use Rattle.vertices.specs.Regular.{irregular, irregularHalf, irregularFloat}
 use Rattle.vertices.proofs.HalfSize.{equal-or-not, side}
-use Rattle.vertices.proofs.HalfRound.{round-cases}
+use Rattle.vertices.proofs.HalfRound.{round-cases, round-none}
 use Rattle.vertices.proofs.HalfDecode.{decoded-normal, decoded-zero, f16-is}
 use Rattle.vertices.proofs.HalfEncode.{encoded-none, encoded-normal, f32-is}
 
@@ -59,12 +59,15 @@ regular-half h r n =
 pub round-sum : (n : ℕ) → (n + 4095 + n / 8192 % 2) / 8192 ≡ roundEven n 8192
 round-sum n = round-cases (λ (r : ℕ). (n + 4095 + n / 8192 % 2) / 8192 ≡ r) n 8192 (λ h. omega arith) (λ h. omega arith) (λ h. omega arith)
 
--- a regular float: what lies above 2^-15's bits, or nothing at zero, is rounded
-pub regular-float : (b : ℕ) → irregularFloat b ≤ 0
-    → b / 2147483648 * 32768 + (b % 2147483648 - 939524096 + 4095 + (b % 2147483648 - 939524096) / 8192 % 2) / 8192 ≡ f32ToF16 b
-regular-float b r =
-    let m : ℕ = b % 2147483648 in
-    elim (equal-or-not m 0) [
-      | inl e ↦ f32-is b _ (omega (arith, encoded-none m (omega arith)))
-      | inr n ↦ let w = regular-between 947912704 1199570944 m r n in f32-is b _ (encoded-normal m (w .0) (w .1) ∙ sym (round-sum (m - 939524096)))
-    ]
+-- a regular float: what is left of its bits with a half's exponent, n, is rounded
+pub regular-float : (b n : ℕ) → irregularFloat b ≤ 0 → n ≡ b % 2147483648 - 939524096 → b / 2147483648 * 32768 + (n + 4095 + n / 8192 % 2) / 8192 ≡ f32ToF16 b
+regular-float b n r e = f32-is b _ (at (equal-or-not m 0) ∙ sym (round-sum n))
+  where
+    m : ℕ
+    m = b % 2147483648
+
+    at : (m ≡ 0) ⊎ (m ≡ 0 → ⊥) → encoded m ≡ roundEven n 8192
+    at (inl z) =
+        let o : n ≡ 0 = omega arith in
+        encoded-none m (omega arith) ∙ sym (ap (λ (x : ℕ). roundEven x 8192) o ∙ round-none 0 8192 (omega arith))
+    at (inr z) = let w = regular-between 947912704 1199570944 m r z in encoded-normal m (w .0) (w .1) ∙ ap (λ (x : ℕ). roundEven x 8192) (sym e)

@@ -10,7 +10,7 @@ use lib.Seq.{drop-at, drop-drop, getD-drop, length-take-le, take-add, take-at}
 use Rattle.sections.specs.Edit.{part}
 use Rattle.sections.specs.Le.{le, bytes, field}
 use Rattle.sections.proofs.EditLaws.{part-part}
-use Rattle.sections.proofs.LeLaws.{bytes-le, field-in, le-bytes, length-bytes}
+use Rattle.sections.proofs.LeLaws.{bytes-le, field-in, le-add, le-bytes, le-one, length-bytes}
 use Rattle.vertices.specs.Runs.{numbers, run, converted}
 
 -- a part of bytes is bytes
@@ -104,3 +104,20 @@ module _ (k m : ℕ) (f : ℕ → ℕ) where
   pub converted-one : (s : List ℕ) (at : ℕ) → converted k m f 1 (drop at s) ≡ bytes m (f (le (part s at k)))
   unfolding converted numbers part
   converted-one s at = run-one m (f (le (take k (drop at s))))
+
+-- ---- bytes read one by one
+
+-- the number of four bytes
+pub le-four : (s : List ℕ) (at : ℕ) → at + 4 ≤ length s → le (part s at 4) ≡ getD s at 0 + 256 * getD s (at + 1) 0 + 65536 * getD s (at + 2) 0 + 16777216 * getD s (at + 3) 0
+le-four s at h =
+    let last : getD s (at + 2 + 1) 0 ≡ getD s (at + 3) 0 = ap (λ (i : ℕ). getD s i 0) (omega arith) in
+    omega (
+      arith,
+      le-add 2 2 s at (omega arith),
+      le-add 1 1 s at (omega arith),
+      le-add 1 1 s (at + 2) (omega arith),
+      le-one s at (omega arith),
+      le-one s (at + 1) (omega arith),
+      le-one s (at + 2) (omega arith),
+      le-one s (at + 2 + 1) (omega arith),
+    )

@@ -1,20 +1,21 @@
 -- Loops that write n numbers of m bytes each to d, from the place of the number with the index `first` on: what stands there after i of them.
 use mathlib.Core.Path.{_≡_, refl, sym, ap, _∙_}
-use mathlib.Core.List.{List, [], _++_}
-use Prim.Native.Nat.{ℕ, _+_, _*_, _/_, _≤_, _<_}
-use native.Mathlib.Nat.{add-mul, mul-le-mul-right, one-mul}
+use mathlib.Core.List.{List, [], _∷_, _++_, map, map-append}
+use Prim.Native.Nat.{ℕ, _+_, _-_, _*_, _/_, _≤_, _<_}
+use native.Mathlib.Nat.{add-mul, le-trans, mul-le-mul-right, one-mul, zero-add, zero-mul}
 use native.Mathlib.Numerals.{add-one}
 use native.Mathlib.Omega.{arith}
+use borrow.Author.Count.{below-more}
 use borrow.Author.Tests.{le-leb, lt-leb}
-use lib.ListN.{length, take, drop, getD}
-use lib.Seq.{drop-drop, length-take-le, take-all, take-suc}
+use lib.ListN.{length, take, drop, getD, set, length-set}
+use lib.Seq.{drop-drop, length-take-le, take-all, take-suc, take-suc-set}
 use Rattle.sections.specs.Edit.{part, overwrite}
 use Rattle.sections.specs.Le.{le, bytes}
 use Rattle.sections.proofs.EditLaws.{overwrite-length, overwrite-none, overwrite-then}
 use Rattle.sections.proofs.LeLaws.{length-bytes}
 use Rattle.vertices.specs.Runs.{numbers, run, converted, Converted}
 use Rattle.vertices.specs.declared.runs.RunAnswer.the-variants.{Written, Needs}
-use Rattle.vertices.proofs.RunLaws.{converted-add, converted-length, converted-one, length-run, run-append, run-one}
+use Rattle.vertices.proofs.RunLaws.{converted-add, converted-length, converted-one, length-run, numbers-add, run-append, run-one}
 
 -- d with the first i of n numbers written, b, where w gives the bytes of so many numbers
 pub record Writing (m : ℕ) (w : ℕ → List ℕ) (d : List ℕ) (first n : ℕ) (b : List ℕ) (i : ℕ) : Type 0 where
@@ -79,6 +80,18 @@ module _ {k m : ℕ} {f : ℕ → ℕ} {s d : List ℕ} {first n : ℕ} {b : Lis
   pub converting-end : i ≡ n → b ≡ overwrite d (first * m) (converted k m f n (drop (first * k) s))
   converting-end e = writing-end (c .writing) e
 
+-- all numbers of s, from the first on
+module _ {k m : ℕ} {f : ℕ → ℕ} {s d : List ℕ} {n : ℕ} {b : List ℕ} {i : ℕ} (c : Converting k m f s d 0 n b i) where
+  -- j numbers more
+  pub run-turn : (j : ℕ) {t : List ℕ} → i + j ≤ n → t ≡ overwrite b (i * m) (converted k m f j (drop (i * k) s)) → Converting k m f s d 0 n t (i + j)
+  run-turn j h e = converting-turn c j h (rw (zero-add i) e)
+
+  -- all that are left
+  pub run-last : {t : List ℕ} → t ≡ overwrite b (i * m) (converted k m f (n - i) (drop (i * k) s)) → t ≡ overwrite d 0 (converted k m f n s)
+  run-last e =
+      let l : i ≤ n = c .writing .low in
+      rw (zero-mul m, zero-mul k) at (converting-end (run-turn (n - i) (omega arith) e) (omega arith))
+
 -- ---- the numbers xs
 
 pub record Putting (m : ℕ) (xs d : List ℕ) (first : ℕ) (b : List ℕ) (i : ℕ) : Type 0 where
@@ -115,3 +128,38 @@ module _ {k m : ℕ} {f : ℕ → ℕ} {s d : List ℕ} where
   converted-no h =
       let no = lt-leb (0 + length s / k * m) (length d) (omega arith) in
       record { answer = rw no; bytes = rw no }
+
+-- ---- numbers converted into an array
+
+-- xs with the first i of n numbers of s converted, from the one with the index `first` on
+pub record Filling (k : ℕ) (f : ℕ → ℕ) (s : List ℕ) (first n : ℕ) (xs : List ℕ) (i : ℕ) : Type 0 where
+  pub low : i ≤ n
+  pub size : length xs ≡ n
+  pub is : take i xs ≡ map f (numbers k i (drop (first * k) s))
+
+-- before the first number
+pub filling-start : {k : ℕ} {f : ℕ → ℕ} {s : List ℕ} {first n : ℕ} {xs : List ℕ} → length xs ≡ n → Filling k f s first n xs 0
+unfolding numbers
+filling-start e = record { low = omega arith; size = e; is = refl }
+
+module _ {k : ℕ} {f : ℕ → ℕ} {s : List ℕ} {first n : ℕ} {xs : List ℕ} {i : ℕ} (c : Filling k f s first n xs i) where
+  -- one number more
+  pub filling-one : {v : ℕ} → i < n → v ≡ f (le (part s ((first + i) * k) k)) → Filling k f s first n (set xs i v) (i + 1)
+  unfolding numbers part
+  filling-one {v} h e =
+      let from : List ℕ = drop (first * k) s in
+      let here : i < length xs = omega (arith, c .size) in
+      let source : drop (i * k) from ≡ drop ((first + i) * k) s = drop-drop (i * k) (first * k) s ∙ ap (λ (x : ℕ). drop x s) (sym (add-mul first i k)) in
+      let more : map f (numbers k (i + 1) from) ≡ map f (numbers k i from) ++ f (le (part s ((first + i) * k) k)) ∷ [] = rw (numbers-add k i 1 from, map-append, source) in
+      let put : take (i + 1) (set xs i v) ≡ take i xs ++ v ∷ [] = rw add-one (take-suc-set xs i v here) in
+      record { low = omega arith; size = length-set xs i v ∙ c .size; is = put ∙ cc (c .is, e, more) }
+
+  -- after the last
+  pub filling-end : i ≡ n → xs ≡ map f (numbers k n (drop (first * k) s))
+  filling-end e = sym (take-all i xs (omega (arith, c .size))) ∙ c .is ∙ ap (λ (x : ℕ). map f (numbers k x (drop (first * k) s))) e
+
+-- ---- the largest of a row
+
+-- a bound of the first i, raised where the next asks for it, is one of the first i + 1
+pub bound-one : (g : ℕ → ℕ) {i a b : ℕ} → ((j : ℕ) → j < i → g j ≤ a) → a ≤ b → g i ≤ b → (j : ℕ) → j < i + 1 → g j ≤ b
+bound-one g {i} {b = b} below h here = below-more (λ j. g j ≤ b) i (λ j l. le-trans (below j l) h) here

@@ -1,12 +1,17 @@
 // Vertices: floats carried as their bits, and how vertex data stores them.
+mod attribute;
 mod buffer;
 mod declaration;
 mod halves;
+mod known;
 mod normalised;
 mod runs;
 mod types;
 mod values;
 
+pub use attribute::VertexAttribute;
+pub use attribute::VertexAttributeValue;
+pub use attribute::as_rgba8;
 pub use buffer::FoundBuffer;
 pub use buffer::StoredDeclaration;
 pub use buffer::VertexBuffer;

@@ -3,8 +3,8 @@ use Prim.Native.Nat.{_+_}
 use borrow.Author.Needs.{needs}
 use native.Mathlib.Omega.{arith}
 use Rattle.sections.proofs.LeLaws.{le-add, le-one}
-use Rattle.vertices.proofs.runs.u16_at.Statement.{statement}
-use Rattle.vertices.proofs.runs.u16_at.Tie as tie
+use Rattle.vertices.proofs.known.u16_at.Statement.{statement}
+use Rattle.vertices.proofs.known.u16_at.Tie as tie
 
 pub u16-at-spec : {M : Type 1} → statement M
 u16-at-spec =
