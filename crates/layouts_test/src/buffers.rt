@@ -1,6 +1,6 @@
 // Parts of what a row carries, and outputs.
 ghost use mathlib.Core.Path.{_≡_};
-ghost use Prim.Native.Nat.{_≤_};
+ghost use Prim.Native.Nat.{_≤_, _<_};
 ghost use lib.ListN.{length};
 use libc::STDIN_FILENO;
 
@@ -45,4 +45,21 @@ pub fn output() -> [u8; 512]
     let mut b = [0u8; 512];
     fill(&mut b);
     b
+}
+
+fn wide(b: u8) -> u64
+    ensures { λ r. ⌜ (r ≡ b) × (r < 256) ⌝ }
+{
+    b as u64
+}
+
+// The bytes as the digits of a number in base 257, modulo the prime 2^55 - 55.
+pub fn checksum(b: &[u8]) -> u64 {
+    let mut sum: u64 = 0;
+    let mut i = 0;
+    while i < b.len() {
+        sum = (sum * 257 + wide(b[i])) % 36028797018963913;
+        i += 1;
+    }
+    sum
 }

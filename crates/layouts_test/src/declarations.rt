@@ -1,5 +1,6 @@
 // Rows about component types, semantics and declarations.
 use crate::Row;
+use crate::buffers::first;
 use crate::names;
 use crate::print::bytes;
 use crate::print::done;
@@ -111,12 +112,12 @@ pub fn read_row(row: Row, data: &[u8]) {
     text(b"\n");
 }
 
-// write_declaration, at offset a, in a buffer of b bytes, at most 64, which stand at the start of the row's.
+// write_declaration, at offset a, in the first b bytes of a buffer of 64. The row holds the buffer, then the declaration.
 pub fn write_row(row: Row, data: &[u8]) {
     let mut buffer = [0u8; 64];
     text(b"write");
     numbers(row, 2);
-    sections::copy_into(&mut buffer, 0, data);
+    sections::copy_into(&mut buffer, 0, first(data, 64));
     let d = vertices::read_declaration(data, 64);
     done(write_first(&mut buffer, row.b as usize, row.a as usize, d));
     bytes(&buffer);

@@ -5,6 +5,7 @@ mod declarations;
 mod located;
 mod names;
 mod print;
+mod values;
 
 use buffers::first;
 use buffers::read_first;
@@ -32,6 +33,7 @@ fn run(row: Row, data: &[u8]) {
         6 => declarations::write_row(row, data),
         7 => declarations::position_only_row(row),
         8 => located::buffer_row(row, data),
+        9 => values::seen_row(row, data),
         _ => print::text(b"unknown row\n"),
     }
 }
