@@ -24,3 +24,6 @@ pub mod DeclarationLaws
 pub mod ComponentWalk
 pub mod ComponentLaws
 pub mod BufferLaws
+pub mod UnifiedBytes
+pub mod UnifiedChecks
+pub mod UnifiedLaws

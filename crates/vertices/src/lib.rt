@@ -7,6 +7,7 @@ mod known;
 mod normalised;
 mod runs;
 mod types;
+mod unify;
 mod values;
 
 pub use attribute::VertexAttribute;
@@ -35,6 +36,9 @@ pub use runs::halves_to_floats;
 pub use types::VertexComponent;
 pub use types::VertexComponentType;
 pub use types::VertexSemantic;
+pub use unify::UnifiedVertex;
+pub use unify::UnifyAnswer;
+pub use unify::unified_vertices;
 pub use values::Bytes4;
 pub use values::F32;
 pub use values::Vec2;

@@ -1,0 +1,144 @@
+-- Check 9: the last vertex decides, by the sum of the component sizes.
+use mathlib.Core.Path.{_≡_, refl, sym, ap, _∙_}
+use mathlib.Core.Bool.{Bool, true, false, cond, _&&_}
+use mathlib.Core.List.{List, [], _∷_}
+use mathlib.Core.Logic.{⊎-elim}
+use Prim.Native.Nat.{ℕ, zero, suc, _+_, _-_, _*_, _/_, _%_, _≤_, _<_}
+use native.Mathlib.Nat.{eq-zero-or-pos, mul-le-mul, mul-le-mul-right}
+use native.Mathlib.Omega.{arith}
+use borrow.Author.Tests.{eq-eqb, ne-eqb, le-leb, leb-true}
+use lib.Dec.{eqb, leb}
+use lib.ListN.{length}
+use Rattle.vertices.specs.Types.{componentType, sizeOf}
+use Rattle.vertices.specs.Declaration.{componentAt, componentsFrom, componentsOf, odd, sizes, totalSize}
+use Rattle.vertices.specs.Unified.{componentInside, allInside, verticesInside}
+use Rattle.vertices.specs.declared.types.VertexComponent.{VertexComponent}
+use Rattle.vertices.specs.declared.declaration.VertexDeclaration.{VertexDeclaration}
+use Rattle.vertices.proofs.ComponentLaws.{item, component-within, inside-total}
+
+-- ---- the sum of the sizes
+
+-- of a component in front, or of none
+sizes-front : (b : Bool) (c : VertexComponent) (xs ys : List VertexComponent) (rest : ℕ) → sizes xs ≡ rest → sizes ys ≡ rest → sizes (cond b (c ∷ xs) ys) ≡ cond b (c .size) 0 + rest
+unfolding sizes
+sizes-front true c xs ys rest p q = ap (λ (n : ℕ). c .size + n) p
+sizes-front false c xs ys rest p q = q ∙ omega arith
+
+-- the same whatever the first flag's number and wherever the first component lies
+sizes-any : (k index flags types offset : ℕ) → sizes (componentsFrom k index flags types offset) ≡ sizes (componentsFrom k 0 flags types 0)
+unfolding componentsFrom
+sizes-any zero index flags types offset = refl
+sizes-any (suc k) index flags types offset =
+    let rest : (i o : ℕ) → sizes (componentsFrom k i (flags / 2) (types / 16) o) ≡ sizes (componentsFrom k 0 (flags / 2) (types / 16) 0) = λ i o. sizes-any k i (flags / 2) (types / 16) o in
+    sizes-front (odd flags) (componentAt index (types % 16) offset) _ _ _ (rest _ _) (rest _ _) ∙ sym (sizes-front (odd flags) (componentAt 0 (types % 16) 0) _ _ _ (rest _ _) (rest _ _))
+
+-- of no flags
+pub sizes-none : (flags types : ℕ) → sizes (componentsFrom 0 0 flags types 0) ≡ 0
+unfolding componentsFrom sizes
+sizes-none flags types = refl
+
+-- of k flags: the lowest one's, and those of the others
+pub sizes-next : (k flags types : ℕ) → 0 < k
+    → sizes (componentsFrom k 0 flags types 0) ≡ cond (odd flags) (sizeOf (componentType (types % 16))) 0 + sizes (componentsFrom (k - 1) 0 (flags / 2) (types / 16) 0)
+unfolding componentsFrom
+sizes-next k flags types h =
+    let n : k ≡ suc (k - 1) = omega arith in
+    ap (λ (m : ℕ). sizes (componentsFrom m 0 flags types 0)) n
+    ∙ sizes-front (odd flags) (componentAt 0 (types % 16) 0) _ _ _ (sizes-any (k - 1) _ (flags / 2) (types / 16) _) (sizes-any (k - 1) _ (flags / 2) (types / 16) _)
+
+-- ---- no sum wraps
+
+-- an index below 2^32 times a stride below 2^16 is below 2^48
+pub product-bound : (index stride : ℕ) → index < 4294967296 → stride < 65536 → index * stride < 281474976710656
+product-bound index stride h l =
+    let i : index ≤ 4294967295 = omega arith in
+    let s : stride ≤ 65535 = omega arith in
+    omega (arith, mul-le-mul i s)
+
+-- ---- as facts
+
+-- each component that has a size ends inside n bytes, in the vertex at `base`
+abbrev pub Within : List VertexComponent → ℕ → ℕ → Type 0
+Within cs base n = (i : ℕ) → i < length cs → 0 < (item cs i) .size → base + (item cs i) .offset + (item cs i) .size ≤ n
+
+one-true : (n base : ℕ) (c : VertexComponent) → componentInside n base c ≡ true → 0 < c .size → base + c .offset + c .size ≤ n
+one-true n base c e p =
+    let z : eqb (c .size) 0 ≡ false = ne-eqb (c .size) 0 (λ z. omega arith) in
+    leb-true _ _ (rw z at e)
+
+true-one : (n base : ℕ) (c : VertexComponent) → (0 < c .size → base + c .offset + c .size ≤ n) → componentInside n base c ≡ true
+true-one n base c f =
+    ⊎-elim (λ z. rw (eq-eqb (c .size) 0 z)) (λ p. rw (ne-eqb (c .size) 0 (λ z. omega arith), le-leb (base + c .offset + c .size) n (f p))) (eq-zero-or-pos (c .size))
+
+both-true : (a b : Bool) → a && b ≡ true → (a ≡ true) × (b ≡ true)
+both-true true b e = (refl, e)
+both-true false b e = let z : _≡_ {A = ℕ} 0 1 = cc in absurd (omega arith)
+
+-- what the test of one vertex says
+pub all-true : (n base : ℕ) (cs : List VertexComponent) → allInside n base cs ≡ true → Within cs base n
+unfolding allInside
+all-true n base [] e i h p = absurd (omega arith)
+all-true n base (c ∷ cs) e zero h p = one-true n base c (both-true _ _ e .0) p
+all-true n base (c ∷ cs) e (suc i) h p = all-true n base cs (both-true (componentInside n base c) _ e .1) i (omega arith) p
+
+pub true-all : (n base : ℕ) (cs : List VertexComponent) → Within cs base n → allInside n base cs ≡ true
+unfolding allInside
+true-all n base [] f = refl
+true-all n base (c ∷ cs) f = rw (true-one n base c (f 0 (omega arith)), true-all n base cs (λ i h. f (suc i) (omega arith)))
+
+module _ (d : VertexDeclaration) (n stride : ℕ) where
+  -- what the test of all vertices says
+  pub vertices-true : (count : ℕ) → verticesInside d n stride count ≡ true → (k : ℕ) → k < count → Within (componentsOf d) (k * stride) n
+  unfolding verticesInside
+  vertices-true zero e k h = absurd (omega arith)
+  vertices-true (suc count) e k h =
+      let b = both-true (verticesInside d n stride count) _ e in
+      ⊎-elim (λ z. let q : k ≡ count = omega arith in rw q (all-true n (count * stride) (componentsOf d) (b .1))) (λ p. vertices-true count (b .0) k (omega arith)) (eq-zero-or-pos (count - k))
+
+  pub true-vertices : (count : ℕ) → ((k : ℕ) → k < count → Within (componentsOf d) (k * stride) n) → verticesInside d n stride count ≡ true
+  unfolding verticesInside
+  true-vertices zero f = refl
+  true-vertices (suc count) f = rw (true-vertices count (λ k h. f k (omega arith)), true-all n (count * stride) (componentsOf d) (f count (omega arith)))
+
+  -- ---- by the sum of the sizes
+
+  -- no vertices, or nothing to read
+  pub vertices-none : verticesInside d n stride 0 ≡ true
+  unfolding verticesInside
+  vertices-none = refl
+
+  pub vertices-sizeless : (count : ℕ) → totalSize d ≡ 0 → verticesInside d n stride count ≡ true
+  vertices-sizeless count z = true-vertices count (λ k h i l p. absurd (omega (arith, component-within d i l)))
+
+  -- the last vertex inside: all are
+  pub vertices-last : (count : ℕ) → 0 < count → (count - 1) * stride + totalSize d ≤ n → verticesInside d n stride count ≡ true
+  vertices-last count h l =
+      true-vertices count (λ k b i f p. let m : k * stride ≤ (count - 1) * stride = mul-le-mul-right stride (omega arith) in
+      omega (arith, component-within d i f))
+
+  -- the last vertex tells
+  pub last-vertex : (count : ℕ) → 0 < count → 0 < totalSize d → verticesInside d n stride count ≡ true → (count - 1) * stride + totalSize d ≤ n
+  last-vertex count h p e =
+      let w : Within (componentsOf d) ((count - 1) * stride) n = vertices-true count e (count - 1) (omega arith) in
+      let t : totalSize d ≤ n - (count - 1) * stride = inside-total d (n - (count - 1) * stride) (λ i l q. omega (arith, w i l q)) in
+      omega arith
+
+  -- so one comparison is check 9
+  pub vertices-inside-is : (count : ℕ) → 0 < count → 0 < totalSize d → verticesInside d n stride count ≡ leb ((count - 1) * stride + totalSize d) n
+  vertices-inside-is count h p =
+      by (verticesInside d n stride count) refl (leb ((count - 1) * stride + totalSize d) n) refl
+    where
+      by : (b : Bool) → verticesInside d n stride count ≡ b → (c : Bool) → leb ((count - 1) * stride + totalSize d) n ≡ c → b ≡ c
+      by true e c f = sym (le-leb _ _ (last-vertex count h p e)) ∙ f
+      by false e true f = sym e ∙ vertices-last count h (leb-true _ _ f)
+      by false e false f = refl
+
+  -- as the code does it, with the sum and the last vertex's place worked out
+  pub last-compared : (count : ℕ) {total base : ℕ} → total ≡ sizes (componentsFrom 16 0 (d .flags) (d .types) 0) → base ≡ (count - 1) * stride → 0 < count → 0 < total
+      → leb (base + total) n ≡ verticesInside d n stride count
+  unfolding totalSize componentsOf
+  last-compared count e f h p = rw (e, f) (sym (vertices-inside-is count h (rw e at p)))
+
+  pub nothing-read : (count : ℕ) {total : ℕ} → total ≡ sizes (componentsFrom 16 0 (d .flags) (d .types) 0) → total ≡ 0 → true ≡ verticesInside d n stride count
+  unfolding totalSize componentsOf
+  nothing-read count e z = sym (vertices-sizeless count (sym e ∙ z))

@@ -1,0 +1,20 @@
+-- The floats, one behind the other, by `put-all`.
+use Rattle.vertices.proofs.UnifiedBytes.{put-all}
+use borrow.Author.Needs.{needs}
+use mathlib.Core.List.{[], _∷_}
+use native.Mathlib.Omega.{arith}
+use Rattle.vertices.proofs.unify.set_vec2.Statement.{statement}
+use Rattle.vertices.proofs.unify.set_vec2.Tie as tie
+
+pub set-vec2-spec : {M : Type 1} → statement M
+set-vec2-spec =
+    tie.close
+    (tie.spec
+    (λ c κs. search needs)
+    (λ c. search needs)
+    (λ c κs. search needs)
+    (λ c. search needs)
+    (λ c.
+    let start = c .before .before .before .before .before .before .before .before .before in
+    let v = start .args .v in
+    cc (put-all 4 (start .args .b .now) (start .args .at) (v .x .bits) (v .y .bits ∷ []) (omega (arith, start .pre)))))

@@ -1,0 +1,21 @@
+-- The last vertex decides, unless there is none or nothing to read.
+use Rattle.vertices.proofs.UnifiedChecks.{last-compared, nothing-read, vertices-none}
+use borrow.Author.Needs.{needs}
+use mathlib.Core.Path.{sym}
+use native.Mathlib.Omega.{arith}
+use Rattle.vertices.proofs.unify.vertices_inside.Statement.{statement}
+use Rattle.vertices.proofs.unify.vertices_inside.Tie as tie
+
+pub vertices-inside-spec : {M : Type 1} → statement M
+vertices-inside-spec =
+    tie.close
+    (tie.spec
+    (λ c κs. search needs)
+    (λ c. search needs)
+    (λ c. rw (c .if1 .taken) (sym (vertices-none _ _ _)))
+    (λ c. nothing-read _ _ _ _ (c .before .before .size-from .ensures) (c .if2 .taken))
+    (λ c. search needs)
+    (λ c. search needs)
+    (λ c κs. search needs)
+    (λ c. search needs)
+    (λ c. last-compared _ _ _ _ (c .before .before .before .size-from .ensures) (c .base-of .ensures .0) (omega arith) (omega arith)))
