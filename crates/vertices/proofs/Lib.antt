@@ -27,3 +27,4 @@ pub mod BufferLaws
 pub mod UnifiedBytes
 pub mod UnifiedChecks
 pub mod UnifiedLaws
+pub mod EncodeLaws

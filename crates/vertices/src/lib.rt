@@ -2,6 +2,7 @@
 mod attribute;
 mod buffer;
 mod declaration;
+mod encode;
 mod halves;
 mod known;
 mod normalised;
@@ -23,6 +24,8 @@ pub use declaration::FoundComponent;
 pub use declaration::VertexDeclaration;
 pub use declaration::read_declaration;
 pub use declaration::write_declaration;
+pub use encode::encode_value;
+pub use encode::has_shape;
 pub use halves::f16_to_f32;
 pub use halves::f32_to_f16;
 pub use normalised::f32_to_snorm8;
