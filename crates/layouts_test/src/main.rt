@@ -2,9 +2,11 @@
 // hexadecimal, and what came of it. tests/expected/layouts.py makes both the rows and the lines that must come out.
 mod buffers;
 mod declarations;
+mod encoding;
 mod located;
 mod names;
 mod print;
+mod unified;
 mod values;
 
 use buffers::first;
@@ -34,6 +36,8 @@ fn run(row: Row, data: &[u8]) {
         7 => declarations::position_only_row(row),
         8 => located::buffer_row(row, data),
         9 => values::seen_row(row, data),
+        11 => unified::unify_row(row, data),
+        12 => encoding::encode_row(row, data),
         _ => print::text(b"unknown row\n"),
     }
 }
