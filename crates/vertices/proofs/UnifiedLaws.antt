@@ -29,7 +29,7 @@ use Rattle.vertices.specs.declared.unify.UnifiedVertex.{UnifiedVertex}
 use Rattle.vertices.specs.declared.unify.UnifiedPlan.{UnifiedPlan}
 use Rattle.vertices.specs.declared.unify.UnifyAnswer.{UnifyAnswer}
 use Rattle.vertices.specs.declared.unify.UnifyAnswer.the-variants.{Written, OutsideData, NeedsBytes}
-use Rattle.vertices.proofs.ComponentLaws.{component-among, component-is}
+use Rattle.vertices.proofs.ComponentLaws.{item, component-among, component-is}
 use Rattle.vertices.proofs.UnifiedChecks.{Within, true-vertices, vertices-true}
 
 -- ---- values without a size
@@ -155,7 +155,8 @@ module _ {d : VertexDeclaration} {s : List ℕ} {stride count : ℕ} {out : List
 
 -- each component that has a size ends within the stride
 abbrev pub InsideStride : VertexDeclaration → ℕ → Type 0
-InsideStride d stride = Within (componentsOf d) 0 stride
+InsideStride d stride =
+    (i : ℕ) → i < length (componentsOf d) → 0 < (item (componentsOf d) i) .size → (item (componentsOf d) i) .offset + (item (componentsOf d) i) .size ≤ stride
 
 -- Of a buffer as it is located, with room in out: it unifies to 84 × count bytes exactly when each component of nonzero size ends within the stride.
 pub record Exactly (d : VertexDeclaration) (s : List ℕ) (stride count : ℕ) (out : List ℕ) (r : UnifyAnswer) (t : List ℕ) : Type 0 where

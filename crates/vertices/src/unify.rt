@@ -70,7 +70,6 @@ pub fn unified_vertices(
 ) -> UnifyAnswer
     ensures { λ r. ⌜ Unified declaration (now («data» .entry)) «vertex_stride» «vertex_count» (now (out .entry)) r (now (out .exit)) ⌝ }
 {
-    let stride = vertex_stride as usize;
     let count = vertex_count as usize;
     if !vertices_inside(declaration, data.len(), vertex_stride, vertex_count) {
         return UnifyAnswer::OutsideData;
@@ -78,7 +77,7 @@ pub fn unified_vertices(
     if out.len() < SIZE * count {
         return UnifyAnswer::NeedsBytes((SIZE * count) as u64);
     }
-    unify_all(data, stride, count, plan_of(declaration), out);
+    unify_all(data, vertex_stride, count, plan_of(declaration), out);
     UnifyAnswer::Written((SIZE * count) as u64)
 }
 
@@ -93,7 +92,7 @@ fn vertices_inside(declaration: VertexDeclaration, n: usize, stride: u16, count:
     if total == 0 {
         return true;
     }
-    base_of((count - 1) as usize, stride as usize) + total <= n
+    base_of((count - 1) as usize, stride) + total <= n
 }
 
 // The bytes of the components of the `left` lowest flags.
@@ -111,11 +110,11 @@ fn size_from(left: u8, flags: u32, types: u64) -> u16
 }
 
 // Where a vertex starts.
-fn base_of(index: usize, stride: usize) -> usize
-    requires { ⌜ (index < 4294967296) × (stride < 65536) ⌝ }
+fn base_of(index: usize, stride: u16) -> usize
+    requires { ⌜ index < 4294967296 ⌝ }
     ensures { λ r. ⌜ (r ≡ index * stride) × (r < 281474976710656) ⌝ }
 {
-    index * stride
+    index * stride as usize
 }
 
 fn plan_of(declaration: VertexDeclaration) -> UnifiedPlan
@@ -134,8 +133,8 @@ fn plan_of(declaration: VertexDeclaration) -> UnifiedPlan
     }
 }
 
-fn unify_all(data: &[u8], stride: usize, count: usize, plan: UnifiedPlan, out: &mut [u8])
-    requires { ⌜ (stride < 65536) × (count < 4294967296) × (84 * count ≤ length (now out)) × ((i : ℕ) → i < count → Readable plan (i * stride) (length (now «data»))) ⌝ }
+fn unify_all(data: &[u8], stride: u16, count: usize, plan: UnifiedPlan, out: &mut [u8])
+    requires { ⌜ (count < 4294967296) × (84 * count ≤ length (now out)) × ((i : ℕ) → i < count → Readable plan (i * stride) (length (now «data»))) ⌝ }
     ensures { λ _. ⌜ now (out .exit) ≡ overwrite (now (out .entry)) 0 (runOf (λ (i : ℕ). plannedVertex plan (now («data» .entry)) (i * stride)) count) ⌝ }
 {
     let mut i: usize = 0;

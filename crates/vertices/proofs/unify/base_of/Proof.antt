@@ -9,5 +9,5 @@ pub base-of-spec : {M : Type 1} → statement M
 base-of-spec =
     tie.close
     (tie.spec
-    (λ c. omega (arith, product-bound (c .args .index) (c .args .stride) (c .pre .0) (c .pre .1)))
-    (λ c. (search needs, omega (arith, product-bound (c .args .index) (c .args .stride) (c .pre .0) (c .pre .1)))))
+    (λ c. omega (arith, product-bound (c .args .index) (c .args .stride) (c .pre) (omega arith)))
+    (λ c. (search needs, omega (arith, product-bound (c .args .index) (c .args .stride) (c .pre) (omega arith)))))

@@ -20,7 +20,7 @@ unified-vertices-spec =
     (λ c κs. search needs)
     (λ c κs.
     let inside = sym (c .before .before .before .before .vertices-inside .ensures) ∙ not-false _ (c .before .before .before .if1 .left) in
-    (omega arith, omega arith, omega arith, λ i h. rw (c .before .plan-of .ensures) (plan-readable _ _ _ (vertices-true _ _ _ _ inside i h))))
+    (omega arith, omega arith, λ i h. rw (c .before .plan-of .ensures) (plan-readable _ _ _ (vertices-true _ _ _ _ inside i h))))
     (λ c. search needs)
     (λ c. search needs)
     (λ c.

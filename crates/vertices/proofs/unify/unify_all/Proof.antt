@@ -18,9 +18,9 @@ unify-all-spec =
     (tie.spec
     Inv-loop
     μ-loop
-    (λ c. rows-start (c .before .before .pre .2))
-    (λ c κs. (omega arith, omega arith))
-    (λ c κs. rw (c .base-of .ensures .0) (c .before .before .before .before .before .pre .3 (c .before .before .loop .i) (c .before .loop-test .taken)))
+    (λ c. rows-start (c .before .before .pre .1))
+    (λ c κs. omega arith)
+    (λ c κs. rw (c .base-of .ensures .0) (c .before .before .before .before .before .pre .2 (c .before .before .loop .i) (c .before .loop-test .taken)))
     (λ c. omega arith)
     (λ c κs. omega (arith, c .before .before .before .before .loop .inv .writing .room, c .before .before .before .before .loop .inv .writing .same))
     (λ c. omega arith)
