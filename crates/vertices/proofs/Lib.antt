@@ -27,4 +27,5 @@ pub mod BufferLaws
 pub mod UnifiedBytes
 pub mod UnifiedChecks
 pub mod UnifiedLaws
+pub mod AttributeLaws
 pub mod EncodeLaws

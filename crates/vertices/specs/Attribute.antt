@@ -1,9 +1,15 @@
 -- Attribute values: how a component is read, and how its value is seen as a vector or a colour (document 01, "A value is one float, ..").
-use mathlib.Core.List.{List}
-use Prim.Native.Nat.{ℕ, _+_}
+use mathlib.Core.Bool.{Bool, true, cond, _&&_, _||_}
+use mathlib.Core.List.{List, [], _∷_, _++_, map}
+use Prim.Native.Nat.{ℕ, _+_, _*_, _-_}
+use lib.Dec.{eqb, ltb}
+use lib.ListN.{length, replicate}
+use Rattle.sections.specs.Edit.{fits}
 use Rattle.sections.specs.Le.{field}
 use Rattle.vertices.specs.Half.{f16ToF32}
 use Rattle.vertices.specs.Normalised.{snorm8ToF32, unorm8ToF32, f32ToUnorm8, snormColour8}
+use Rattle.vertices.specs.Types.{sizeOf}
+use Rattle.vertices.specs.Declaration.{componentsOf, emptyComponent}
 use Rattle.vertices.specs.declared.values.F32.{F32}
 use Rattle.vertices.specs.declared.values.Vec2.{Vec2}
 use Rattle.vertices.specs.declared.values.Vec3.{Vec3}
@@ -11,6 +17,10 @@ use Rattle.vertices.specs.declared.values.Vec4.{Vec4}
 use Rattle.vertices.specs.declared.values.Bytes4.{Bytes4}
 use Rattle.vertices.specs.declared.types.VertexComponentType.{VertexComponentType}
 use Rattle.vertices.specs.declared.types.VertexComponentType.the-variants.{Nothing, Half2, Float, Half4, FloatUnknown, Float2, Float3, Float4, UByte4, Colour, Rgba8Snorm, Unknown}
+use Rattle.vertices.specs.declared.types.VertexComponent.{VertexComponent}
+use Rattle.vertices.specs.declared.declaration.VertexDeclaration.{VertexDeclaration}
+use Rattle.vertices.specs.declared.attribute.VertexAttribute.{VertexAttribute}
+use Rattle.vertices.specs.declared.attribute.VertexAttributes.{VertexAttributes}
 use Rattle.vertices.specs.declared.attribute.VertexAttributeValue.{VertexAttributeValue}
 use Rattle.vertices.specs.declared.attribute.VertexAttributeValue.the-variants.{One, Two, Three, Four, Bytes, Unsupported}
 
@@ -122,3 +132,36 @@ asRgba8 t (Three v) = white
 asRgba8 t (Four v) = record { a = colourOf t (v .x); b = colourOf t (v .y); c = colourOf t (v .z); d = colourOf t (v .w) }
 asRgba8 t (Bytes b) = b
 asRgba8 t Unsupported = white
+
+-- ---- the attributes of one vertex, which begins at `base`
+
+-- a component has no bytes, or they lie inside the data
+abbrev pub inside : List ℕ → ℕ → VertexComponent → Bool
+inside s base c = eqb (sizeOf (c .«component_type»)) 0 || fits s (base + c .offset) (sizeOf (c .«component_type»))
+
+-- check 9: every component does
+unfoldable pub allInside : List ℕ → ℕ → List VertexComponent → Bool
+allInside s base [] = true
+allInside s base (c ∷ cs) = inside s base c && allInside s base cs
+
+-- a component beside its value
+abbrev pub attributeAt : List ℕ → ℕ → VertexComponent → VertexAttribute
+attributeAt s base c = record { component = c; value = valueAt (c .«component_type») s (base + c .offset) }
+
+-- what fills an array of attributes up
+abbrev pub emptyAttribute : VertexAttribute
+emptyAttribute = record { component = emptyComponent; value = Unsupported }
+
+-- attributes as an array of 16 and a count, beside the number of the check that failed or 0
+unfoldable pub attributeList : ℕ → List VertexAttribute → VertexAttributes
+attributeList refusal items = record { refusal = refusal; items = items ++ replicate (16 - length items) emptyAttribute; count = length items }
+
+-- the attributes of the vertex that begins at `base`: refused by check 9, or each component in order
+unfoldable pub attributesAt : List ℕ → ℕ → List VertexComponent → VertexAttributes
+unfolding allInside attributeList
+attributesAt s base cs = cond (allInside s base cs) (attributeList 0 (map (attributeAt s base) cs)) (attributeList 9 [])
+
+-- the attributes of the vertex `index` of `count`: refused by check 8 where there is none
+unfoldable pub attributesOf : List ℕ → ℕ → ℕ → VertexDeclaration → ℕ → VertexAttributes
+unfolding attributesAt attributeList
+attributesOf s stride count d index = cond (ltb index count) (attributesAt s (index * stride) (componentsOf d)) (attributeList 8 [])

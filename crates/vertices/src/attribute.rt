@@ -1,10 +1,14 @@
 // Attribute values: one component of one vertex, read from the data and seen as a vector or a colour.
 ghost use mathlib.Core.Path.{_≡_};
-ghost use Prim.Native.Nat.{_+_, _≤_};
+ghost use mathlib.Core.Bool.{true};
+ghost use mathlib.Core.List.{[]};
+ghost use Prim.Native.Nat.{_+_, _≤_, _<_};
 ghost use lib.ListN.{length};
 ghost use Rattle.vertices.specs.Types.{sizeOf};
 ghost use Rattle.vertices.specs.Normalised.{unorm8ToF32};
-ghost use Rattle.vertices.specs.Attribute.{floatAt, halfAt, snormAt, twoAt, threeAt, fourAt, bytesAt, valueAt, asVec2, asVec3, asVec4, colourOf, asRgba8};
+ghost use Rattle.vertices.specs.Declaration.{componentsOf};
+ghost use Rattle.vertices.specs.Attribute.{inside, attributeAt, emptyAttribute, attributeList, attributesAt, attributesOf, floatAt, halfAt, snormAt, twoAt, threeAt, fourAt, bytesAt, valueAt, asVec2, asVec3, asVec4, colourOf, asRgba8};
+use crate::declaration::VertexDeclaration;
 use crate::halves::f16_to_f32;
 use crate::known::u8_at;
 use crate::known::u16_at;
@@ -15,6 +19,7 @@ use crate::normalised::snorm8_to_f32;
 use crate::normalised::unorm8_to_f32;
 use crate::types::VertexComponent;
 use crate::types::VertexComponentType;
+use crate::types::VertexSemantic;
 use crate::values::Bytes4;
 use crate::values::F32;
 use crate::values::Vec2;
@@ -34,6 +39,13 @@ pub enum VertexAttributeValue {
 pub struct VertexAttribute {
     pub component: VertexComponent,
     pub value: VertexAttributeValue,
+}
+
+// The first `count` items are the attributes; the others are empty. A refusal is the number of the check that failed, or 0.
+pub struct VertexAttributes {
+    pub refusal: u8,
+    pub items: [VertexAttribute; 16],
+    pub count: usize,
 }
 
 const ZERO: F32 = F32 { bits: 0 };
@@ -189,6 +201,106 @@ fn vec4(x: F32, y: F32, z: F32, w: F32) -> Vec4
     ensures { λ r. ⌜ r ≡ record { x = x; y = y; z = z; w = w } ⌝ }
 {
     Vec4 { x, y, z, w }
+}
+
+// The components of one vertex, each beside its value. Check 8: there is such a vertex. Check 9: every component that has bytes lies
+// inside the data. A refused answer has no attributes.
+pub fn read_vertex_attributes(
+    data: &[u8],
+    vertex_stride: u16,
+    vertex_count: u32,
+    declaration: VertexDeclaration,
+    vertex_index: u64,
+) -> VertexAttributes
+    ensures { λ r. ⌜ r ≡ attributesOf (now («data» .entry)) «vertex_stride» «vertex_count» declaration «vertex_index» ⌝ }
+{
+    if vertex_index < vertex_count as u64 {
+        return attributes_at(
+            data,
+            vertex_index as usize * vertex_stride as usize,
+            declaration,
+        );
+    }
+    no_attributes(8)
+}
+
+// The vertex that begins at `base`.
+fn attributes_at(data: &[u8], base: usize, declaration: VertexDeclaration) -> VertexAttributes
+    requires { ⌜ base < 281474976710656 ⌝ }
+    ensures { λ r. ⌜ r ≡ attributesAt (now («data» .entry)) base (componentsOf declaration) ⌝ }
+{
+    let components = declaration.components();
+    let count = components.count;
+    let mut items = [empty_attribute(); 16];
+    let mut i = 0;
+    while i < count {
+        let component = components.items[i];
+        if !component_inside(data, base, component) {
+            return no_attributes(9);
+        }
+        items[i] = attribute_at(data, base, component);
+        i += 1;
+    }
+    VertexAttributes {
+        refusal: 0,
+        items,
+        count,
+    }
+}
+
+fn component_inside(data: &[u8], base: usize, component: VertexComponent) -> bool
+    requires { ⌜ base < 281474976710656 ⌝ }
+    ensures { λ r. ⌜ r ≡ inside (now («data» .entry)) base component ⌝ }
+{
+    let component_type = component.component_type;
+    let size = component_type.size_in_bytes() as usize;
+    if size == 0 {
+        return true;
+    }
+    base + component.offset as usize + size <= data.len()
+}
+
+fn attribute_at(data: &[u8], base: usize, component: VertexComponent) -> VertexAttribute
+    requires { ⌜ (base < 281474976710656) × (inside (now «data») base component ≡ true) ⌝ }
+    ensures { λ r. ⌜ r ≡ attributeAt (now («data» .entry)) base component ⌝ }
+{
+    let component_type = component.component_type;
+    if component_type.size_in_bytes() == 0 {
+        return VertexAttribute {
+            component,
+            value: VertexAttributeValue::Unsupported,
+        };
+    }
+    let value = value_at(data, base + component.offset as usize, component_type);
+    VertexAttribute { component, value }
+}
+
+fn no_attributes(refusal: u8) -> VertexAttributes
+    ensures { λ r. ⌜ r ≡ attributeList refusal [] ⌝ }
+{
+    let items = [empty_attribute(); 16];
+    VertexAttributes {
+        refusal,
+        items,
+        count: 0,
+    }
+}
+
+fn empty_attribute() -> VertexAttribute
+    ensures { λ r. ⌜ r ≡ emptyAttribute ⌝ }
+{
+    let component = VertexComponent {
+        semantic: VertexSemantic::Position,
+        semantic_index: 0,
+        component_type: VertexComponentType::Nothing,
+        offset: 0,
+        size: 0,
+        component_count: 0,
+    };
+    VertexAttribute {
+        component,
+        value: VertexAttributeValue::Unsupported,
+    }
 }
 
 // The value of a type at a place that is known to lie inside the data.

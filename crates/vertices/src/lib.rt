@@ -13,7 +13,9 @@ mod values;
 
 pub use attribute::VertexAttribute;
 pub use attribute::VertexAttributeValue;
+pub use attribute::VertexAttributes;
 pub use attribute::as_rgba8;
+pub use attribute::read_vertex_attributes;
 pub use buffer::FoundBuffer;
 pub use buffer::StoredDeclaration;
 pub use buffer::VertexBuffer;
