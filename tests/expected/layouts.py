@@ -434,7 +434,7 @@ def attributes_line(data, stride, count, flags, types, index):
 
 
 def attributes_row(data, stride, count, flags, types, index):
-    return
+    asked = [stride, count, flags, types, index]
     row(10, asked, "attributes" + hexed(*asked) + ":" + attributes_line(data, *asked), data)
 
 
@@ -603,6 +603,8 @@ def encode_row(nibble, shape, raw, at, size):
         whole[at : at + size_of(nibble)] = encoded(nibble, items)
     asked = [nibble, shape, at, size]
     line = "encode" + hexed(*asked) + ": " + name_of(nibble) + (" yes" if shaped else " no") + (" done " if fits else " refused ") + whole[:64].hex()
+    if fits:
+        line += attributes_line(bytes(whole), at, 2, 1, nibble, 1)
     row(12, asked, line, raw)
 
 
@@ -649,6 +651,7 @@ legacy_rows()
 gen9_rows()
 inline_rows()
 seen_rows()
+attribute_rows()
 unified_rows()
 encoding_rows()
 random_rows()

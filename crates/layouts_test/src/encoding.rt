@@ -1,7 +1,9 @@
 // Rows about encoding values.
 use crate::Row;
+use crate::attributes::attributes;
 use crate::buffers::first;
 use crate::buffers::output;
+use crate::declarations::declared;
 use crate::names;
 use crate::print::bytes;
 use crate::print::done;
@@ -25,8 +27,13 @@ fn encode_first(
     false
 }
 
+// What was encoded at `at`, read back as the only component of vertex 1.
+fn decoded(b: &[u8], nibble: u64, at: usize) {
+    attributes(vertices::read_vertex_attributes(b, (at % 65536) as u16, 2, declared(1, nibble), 1));
+}
+
 // has_shape and encode_value, of the type a and a value of shape b, at offset c, in a buffer of d bytes, at most 512.
-// Prints its first 64 bytes.
+// Prints its first 64 bytes, and what was encoded, decoded.
 pub fn encode_row(row: Row, data: &[u8]) {
     let mut buffer = output();
     let t = VertexComponentType::from_nibble((row.a % 256) as u8);
@@ -43,5 +50,8 @@ pub fn encode_row(row: Row, data: &[u8]) {
     let answer = encode_first(&mut buffer, row.d as usize, at, t, v);
     done(answer);
     bytes(first(&buffer, 64));
+    if answer {
+        decoded(&buffer, row.a, at);
+    }
     text(b"\n");
 }

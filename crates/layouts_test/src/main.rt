@@ -1,5 +1,6 @@
 // Runs the rows of standard input through the crate `vertices` and prints a line for each: what was called, what with, in
 // hexadecimal, and what came of it. tests/expected/layouts.py makes both the rows and the lines that must come out.
+mod attributes;
 mod buffers;
 mod declarations;
 mod encoding;
@@ -36,6 +37,7 @@ fn run(row: Row, data: &[u8]) {
         7 => declarations::position_only_row(row),
         8 => located::buffer_row(row, data),
         9 => values::seen_row(row, data),
+        10 => attributes::attributes_row(row, data),
         11 => unified::unify_row(row, data),
         12 => encoding::encode_row(row, data),
         _ => print::text(b"unknown row\n"),
