@@ -251,7 +251,7 @@ def gen9_rows():
         block_rows(gen9_block(stride, count, pointer, GRAPHICS))
     # Legacy's own two pointers good, but its count is the address' lower half
     block_rows(gen9_block(12, 2, IN_SYSTEM, GRAPHICS, IN_GRAPHICS, IN_GRAPHICS))
-    # a block that is good as both Legacy and Gen9 is Legacy: its data begins in the block, so that the count may be an address
+    # Gen9's stride and count set too. No block within the limit is good as both: Gen9's pointer has Legacy's count as its lower half
     block = bytearray(legacy_block(2, 12, SYSTEM, SYSTEM, GRAPHICS))
     struct.pack_into("<H", block, 0x0C, 12)
     block_rows(bytes(block))
@@ -388,7 +388,7 @@ def value_line(value):
 
 def seen_line(nibble, value):
     vectors = "".join(" vec%d" % n + hexed(*as_vector(value, n)) for n in (2, 3, 4))
-    return vectors + " rgba8" + hexed(*as_rgba8(nibble, value))
+    return vectors + " xyz" + hexed(*as_vector(value, 4)[:3]) + " rgba8" + hexed(*as_rgba8(nibble, value))
 
 
 def seen_rows():

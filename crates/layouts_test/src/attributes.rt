@@ -5,19 +5,18 @@ use crate::declarations::declared;
 use crate::print::number;
 use crate::print::numbers;
 use crate::print::text;
-use crate::values::seen;
 use crate::values::value;
+use crate::values::views;
 use vertices::VertexAttribute;
 use vertices::VertexAttributes;
 
 fn attribute(a: VertexAttribute) {
     let c = a.component;
-    let t = c.component_type;
     let v = a.value;
     text(b",");
     component(c);
     value(v);
-    seen(t, v);
+    views(a.as_vec2(), a.as_vec3(), a.as_vec4(), a.as_rgba8());
 }
 
 // The refusal's number, how many attributes there are, and each.

@@ -63,16 +63,18 @@ pub fn value(v: VertexAttributeValue) {
     }
 }
 
-// The value as vectors of two, three and four and as a colour.
-pub fn seen(t: VertexComponentType, v: VertexAttributeValue) {
+// A value as vectors of two, three and four, the last also without its w, and as a colour.
+pub fn views(two: Vec2, three: Vec3, four: Vec4, colour: Bytes4) {
     text(b" vec2");
-    vec2(v.as_vec2());
+    vec2(two);
     text(b" vec3");
-    vec3(v.as_vec3());
+    vec3(three);
     text(b" vec4");
-    vec4(v.as_vec4());
+    vec4(four);
+    text(b" xyz");
+    vec3(four.xyz());
     text(b" rgba8");
-    bytes4(vertices::as_rgba8(t, v));
+    bytes4(colour);
 }
 
 fn float_in(raw: &[u8], off: usize) -> F32 {
@@ -134,6 +136,11 @@ pub fn seen_row(row: Row, data: &[u8]) {
     numbers(row, 2);
     names::component_type(t);
     value(v);
-    seen(t, v);
+    views(
+        v.as_vec2(),
+        v.as_vec3(),
+        v.as_vec4(),
+        vertices::as_rgba8(t, v),
+    );
     text(b"\n");
 }
