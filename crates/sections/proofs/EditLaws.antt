@@ -1,14 +1,14 @@
 -- Laws of `part` and `overwrite`, for every crate above.
-use mathlib.Core.Path.{_≡_, refl, sym, ap, _∙_}
+use mathlib.Core.Path.{_≡_, sym, ap, _∙_}
 use mathlib.Core.Bool.{Bool, true, false}
 use mathlib.Core.List.{List, [], _∷_, _++_, append-assoc, append-nil}
 use Prim.Native.Nat.{ℕ, zero, suc, _+_, _-_, _≤_, _<_}
 use native.Mathlib.Nat.{add-assoc, add-zero, zero-add}
 use native.Mathlib.Numerals.{add-one}
 use native.Mathlib.Omega.{arith}
-use borrow.Author.Tests.{le-leb, lt-leb}
+use borrow.Author.Tests.{le-leb}
 use lib.ListN.{length, take, drop, getD, set, length-append, length-take, length-drop, take-append-drop, drop-of-length-le}
-use lib.Seq.{length-take-le, append-snoc, take-all, take-nil, take-add, take-take, take-at, take-append-le, drop-at, drop-cons, drop-drop, drop-append-le, drop-append-add, getD-take, getD-drop, set-split}
+use lib.Seq.{length-take-le, append-snoc, take-all, take-nil, take-add, take-take, take-at, take-append-le, drop-at, drop-cons, drop-drop, drop-append-add, getD-take, getD-drop, set-split}
 use Rattle.sections.specs.Edit.{part, overwrite, fits, Edited}
 
 -- ---- parts

@@ -4,7 +4,7 @@ use mathlib.Core.Logic.{_⊎_, inl, inr, ⊎-elim}
 use mathlib.Core.Bool.{Bool, true, false, cond}
 use mathlib.Core.List.{List}
 use mathlib.Core.Option.{Option, none, some, Option·some-injective}
-use Prim.Native.Nat.{ℕ, _*_, _≤_, _<_}
+use Prim.Native.Nat.{ℕ, _*_, _<_}
 use native.Mathlib.Nat.{eq-zero-or-pos}
 use native.Mathlib.Omega.{arith}
 use borrow.Author.Tests.{eqb-false}
@@ -20,7 +20,6 @@ use Rattle.vertices.specs.declared.buffer.VertexBufferLayout.the-variant
 use Rattle.vertices.specs.declared.buffer.StoredDeclaration.{StoredDeclaration}
 use Rattle.vertices.specs.declared.buffer.StoredDeclaration.the-variants.{Absent}
 use Rattle.vertices.specs.declared.buffer.VertexBuffer.{VertexBuffer}
-use Rattle.vertices.specs.declared.buffer.FoundBuffer.{FoundBuffer}
 use Rattle.vertices.specs.declared.buffer.FoundBuffer.the-variants.{Buffer, NotFound}
 
 -- ---- the order of attempts

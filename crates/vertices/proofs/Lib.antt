@@ -24,8 +24,9 @@ pub mod DeclarationLaws
 pub mod ComponentWalk
 pub mod ComponentLaws
 pub mod BufferLaws
+pub mod SubnormalLaws
+pub mod AttributeLaws
+pub mod EncodeLaws
 pub mod UnifiedBytes
 pub mod UnifiedChecks
 pub mod UnifiedLaws
-pub mod AttributeLaws
-pub mod EncodeLaws

@@ -1,14 +1,14 @@
 -- Laws of `irregular`, and the conversions of what is regular, free of branches but for zero.
 use mathlib.Core.Path.{_≡_, sym, ap, _∙_}
 use mathlib.Core.Logic.{_⊎_, inl, inr}
-use Prim.Native.Nat.{ℕ, _+_, _-_, _*_, _/_, _%_, _^_, _≤_, _<_}
+use Prim.Native.Nat.{ℕ, _+_, _-_, _*_, _/_, _%_, _≤_, _<_}
 use native.Mathlib.Omega.{arith}
 use borrow.Author.Tests.{eq-eqb, le-ltb, lt-ltb, ne-eqb}
-use Rattle.vertices.specs.Half.{decoded, encoded, f16ToF32, f32ToF16, roundEven}
+use Rattle.vertices.specs.Half.{encoded, f16ToF32, f32ToF16, roundEven}
 use Rattle.vertices.specs.Regular.{irregular, irregularHalf, irregularFloat}
 use Rattle.vertices.proofs.HalfSize.{equal-or-not, side}
 use Rattle.vertices.proofs.HalfRound.{round-cases, round-none}
-use Rattle.vertices.proofs.HalfDecode.{decoded-normal, decoded-zero, f16-is}
+use Rattle.vertices.proofs.HalfDecode.{decoded-normal, f16-is}
 use Rattle.vertices.proofs.HalfEncode.{encoded-none, encoded-normal, f32-is}
 
 -- ---- its value by cases

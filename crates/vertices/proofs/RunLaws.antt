@@ -1,8 +1,8 @@
 -- Laws of runs, for every width k.
 use mathlib.Core.Path.{_≡_, refl, sym, ap, _∙_}
-use mathlib.Core.List.{List, [], _∷_, _++_, append-assoc, append-nil, map, map-append}
+use mathlib.Core.List.{List, [], _∷_, _++_, append-assoc, append-nil, map-append}
 use Prim.Native.Nat.{ℕ, zero, suc, _+_, _*_, _^_, _≤_, _<_}
-use native.Mathlib.Nat.{add-comm, add-mul, mul-le-mul-right, suc-add, suc-mul, zero-add, zero-mul}
+use native.Mathlib.Nat.{add-comm, mul-le-mul-right, suc-add, suc-mul, zero-add, zero-mul}
 use native.Mathlib.Omega.{arith}
 use lib.Dec.{lit<}
 use lib.ListN.{length, take, drop, getD, length-append, length-drop, length-map}
@@ -91,6 +91,7 @@ module _ (k : ℕ) where
 -- ---- a run converted
 
 module _ (k m : ℕ) (f : ℕ → ℕ) where
+  -- its length
   pub converted-length : (n : ℕ) (s : List ℕ) → length (converted k m f n s) ≡ n * m
   unfolding converted
   converted-length n s = rw (length-run, length-map, numbers-length)

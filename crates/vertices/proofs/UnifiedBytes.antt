@@ -84,12 +84,15 @@ four-stores s at v h a b c d =
 
 -- ---- the three parts that a vertex is written in
 
+-- position and normal
 abbrev pub placement : UnifiedVertex → List ℕ
 placement v = vec3Bytes (v .position) ++ vec3Bytes (v .normal)
 
+-- colours and texture coordinates
 abbrev pub surface : UnifiedVertex → List ℕ
 surface v = (bytes4Bytes (v .color0) ++ bytes4Bytes (v .color1)) ++ (vec2Bytes (v .texcoord0) ++ vec2Bytes (v .texcoord1))
 
+-- tangent, blend weights and blend indices
 abbrev pub blending : UnifiedVertex → List ℕ
 blending v = vec4Bytes (v .tangent) ++ vec4Bytes (v .«blend_weights») ++ bytes4Bytes (v .«blend_indices»)
 
@@ -112,12 +115,15 @@ module _ (s : List ℕ) (at : ℕ) where
       → overwrite (overwrite s at (vec3Bytes (v .position))) (at + 12) (vec3Bytes (v .normal)) ≡ overwrite s at (placement v)
   placement-written v h = runs-written 4 4 _ _ h
 
+  -- two colours
   pub colours-written : (first second : Bytes4) → at + 8 ≤ length s → overwrite (overwrite s at (bytes4Bytes first)) (at + 4) (bytes4Bytes second) ≡ overwrite s at (bytes4Bytes first ++ bytes4Bytes second)
   colours-written first second h = runs-written 1 1 _ _ h
 
+  -- two texture coordinates
   pub texcoords-written : (first second : Vec2) → at + 16 ≤ length s → overwrite (overwrite s at (vec2Bytes first)) (at + 8) (vec2Bytes second) ≡ overwrite s at (vec2Bytes first ++ vec2Bytes second)
   texcoords-written first second h = runs-written 4 4 _ _ h
 
+  -- colours, then texture coordinates
   pub surface-written : (v : UnifiedVertex) → at + 24 ≤ length s
       → overwrite (overwrite s at (bytes4Bytes (v .color0) ++ bytes4Bytes (v .color1))) (at + 8) (vec2Bytes (v .texcoord0) ++ vec2Bytes (v .texcoord1)) ≡ overwrite s at (surface v)
   surface-written v h =
@@ -125,6 +131,7 @@ module _ (s : List ℕ) (at : ℕ) where
       let m : length (vec2Bytes (v .texcoord0) ++ vec2Bytes (v .texcoord1)) ≡ 16 = simp (length-append, length-run) in
       overwrite-then s at 8 (bytes4Bytes (v .color0) ++ bytes4Bytes (v .color1)) (vec2Bytes (v .texcoord0) ++ vec2Bytes (v .texcoord1)) l (omega arith)
 
+  -- tangent, blend weights, blend indices
   pub blending-written : (v : UnifiedVertex) → at + 36 ≤ length s
       → overwrite (overwrite (overwrite s at (vec4Bytes (v .tangent))) (at + 16) (vec4Bytes (v .«blend_weights»))) (at + 32) (bytes4Bytes (v .«blend_indices»)) ≡ overwrite s at (blending v)
   blending-written v h =

@@ -81,6 +81,7 @@ all-true n base [] e i h p = absurd (omega arith)
 all-true n base (c ∷ cs) e zero h p = one-true n base c (both-true _ _ e .0) p
 all-true n base (c ∷ cs) e (suc i) h p = all-true n base cs (both-true (componentInside n base c) _ e .1) i (omega arith) p
 
+-- and when it passes
 pub true-all : (n base : ℕ) (cs : List VertexComponent) → Within cs base n → allInside n base cs ≡ true
 unfolding allInside
 true-all n base [] f = refl
@@ -95,6 +96,7 @@ module _ (d : VertexDeclaration) (n stride : ℕ) where
       let b = both-true (verticesInside d n stride count) _ e in
       ⊎-elim (λ z. let q : k ≡ count = omega arith in rw q (all-true n (count * stride) (componentsOf d) (b .1))) (λ p. vertices-true count (b .0) k (omega arith)) (eq-zero-or-pos (count - k))
 
+  -- and when it passes
   pub true-vertices : (count : ℕ) → ((k : ℕ) → k < count → Within (componentsOf d) (k * stride) n) → verticesInside d n stride count ≡ true
   unfolding verticesInside
   true-vertices zero f = refl
@@ -102,11 +104,12 @@ module _ (d : VertexDeclaration) (n stride : ℕ) where
 
   -- ---- by the sum of the sizes
 
-  -- no vertices, or nothing to read
+  -- no vertices
   pub vertices-none : verticesInside d n stride 0 ≡ true
   unfolding verticesInside
   vertices-none = refl
 
+  -- nothing to read
   pub vertices-sizeless : (count : ℕ) → totalSize d ≡ 0 → verticesInside d n stride count ≡ true
   vertices-sizeless count z = true-vertices count (λ k h i l p. absurd (omega (arith, component-within d i l)))
 
@@ -139,6 +142,7 @@ module _ (d : VertexDeclaration) (n stride : ℕ) where
   unfolding totalSize componentsOf
   last-compared count e f h p = rw (e, f) (sym (vertices-inside-is count h (rw e at p)))
 
+  -- where the sum is 0 every vertex is inside
   pub nothing-read : (count : ℕ) {total : ℕ} → total ≡ sizes (componentsFrom 16 0 (d .flags) (d .types) 0) → total ≡ 0 → true ≡ verticesInside d n stride count
   unfolding totalSize componentsOf
   nothing-read count e z = sym (vertices-sizeless count (sym e ∙ z))

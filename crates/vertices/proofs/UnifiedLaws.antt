@@ -90,6 +90,7 @@ unfolding runOf
 run-same f g e zero = refl
 run-same f g e (suc n) = rw (run-same f g e n, e n)
 
+-- all vertices by the plan are all vertices
 pub planned-run : (d : VertexDeclaration) (s : List ℕ) (stride count : ℕ) → runOf (λ (i : ℕ). plannedVertex (planOf d) s (i * stride)) count ≡ unifiedRun d s stride count
 unfolding unifiedRun
 planned-run d s stride count = run-same _ _ (λ i. planned-vertex d s (i * stride)) count
@@ -178,6 +179,7 @@ module _ (d : VertexDeclaration) (s : List ℕ) (stride count : ℕ) (whole : le
       let q : count * stride ≡ (count - 1) * stride + stride = ap (λ (m : ℕ). m * stride) n ∙ suc-mul (count - 1) stride in
       omega (arith, vertices-true d (length s) stride count e (count - 1) (omega arith) i l p)
 
+  -- a located buffer gives vertex_count vertices exactly when each component of nonzero size ends within the stride
   pub unify-exactly : (out : List ℕ) → 84 * count ≤ length out → (r : UnifyAnswer) (t : List ℕ) → Unified d s stride count out r t → Exactly d s stride count out r t
   unify-exactly out room r t u =
       let ok = le-leb (0 + 84 * count) (length out) (omega arith) in

@@ -1,11 +1,16 @@
 -- The test vectors of document 01 (its starred soundings) that speak of single numbers, proved by one computation over the whole list.
 use mathlib.Core.Path.{_≡_}
-use mathlib.Core.Bool.{Bool, true, false, _&&_}
+use mathlib.Core.Bool.{Bool, true, false, cond, _&&_}
 use mathlib.Core.List.{List, [], _∷_}
-use Prim.Native.Nat.{ℕ}
+use Prim.Native.Nat.{ℕ, _*_}
 use lib.Count.{leadingZeros}
 use lib.Dec.{T, eqb, eqb→eq}
 use lib.Ieee.{div, lt, ofInt, toBits}
+use lib.ListN.{replicate}
+use Rattle.vertices.specs.Types.{componentType, semanticOf}
+use Rattle.vertices.specs.Declaration.{positionOnly, componentsFrom, componentsOf}
+use Rattle.vertices.specs.Attribute.{attributesOf}
+use Rattle.vertices.specs.Unified.{allInside, verticesInside}
 use Rattle.vertices.specs.Half.{f16ToF32, f32ToF16}
 use Rattle.vertices.specs.Normalised.{signedByte, atLeast, snorm8ToF32}
 
@@ -35,7 +40,16 @@ tested (row convert input output ∷ rows) t =
     let ts = both (eqb (convert input) output) (test rows) t in
     (eqb→eq (convert input) output (ts .0), tested rows (ts .1))
 
--- halves to floats, floats to halves, signed normalised bytes to floats
+-- the check that refuses attribute `index` of two vertices of 11 bytes that have a position alone, 0 where none does
+positionRefusal : ℕ → ℕ
+positionRefusal index = attributesOf (replicate 22 0) 11 2 (positionOnly 11) index .refusal
+
+-- the check that refuses to unify two such vertices of `stride` bytes, 0 where none does
+unifyRefusal : ℕ → ℕ
+unifyRefusal stride = cond (verticesInside (positionOnly stride) (2 * stride) stride 2) 0 9
+
+-- halves to floats, floats to halves, signed normalised bytes to floats; position alone, count 2, stride 11: vertex 0 reads, vertex 1 and
+-- unifying refuse 9, and stride 12 unifies
 pub vectors : List Row
 vectors =
     row f16ToF32 0x0001 0x33800000
@@ -50,9 +64,13 @@ vectors =
     ∷ row f32ToF16 0x3F801000 0x3C00
     ∷ row snorm8ToF32 0x80 0xBF800000
     ∷ row snorm8ToF32 0x81 0xBF800000
+    ∷ row positionRefusal 0 0
+    ∷ row positionRefusal 1 9
+    ∷ row unifyRefusal 11 9
+    ∷ row unifyRefusal 12 0
     ∷ []
 
 -- Every vector is right.
 pub vectors-right : Right vectors
-unfolding vectors f16ToF32 f32ToF16 leadingZeros snorm8ToF32 signedByte atLeast div lt ofInt toBits
+unfolding vectors f16ToF32 f32ToF16 leadingZeros snorm8ToF32 signedByte atLeast div lt ofInt toBits positionRefusal unifyRefusal attributesOf verticesInside allInside componentsOf componentsFrom componentType semanticOf
 vectors-right = tested vectors tt

@@ -53,6 +53,7 @@ pub record Inside (c : VertexComponent) (base n : ℕ) : Type 0 where
   pub size : c .size ≡ sizeOf (c .«component_type»)
   pub ends : 0 < c .size → base + c .offset + c .size ≤ n
 
+-- and so does the component behind a field, where there is one
 abbrev pub Ends : FoundComponent → ℕ → ℕ → Type 0
 Ends Missing base n = Unit
 Ends (Component c) base n = Inside c base n

@@ -11,6 +11,6 @@ irregular least limit m = cond (eqb m 0) 0 (cond (ltb m least) 1 (cond (ltb m li
 abbrev pub irregularHalf : ℕ → ℕ
 irregularHalf h = irregular (2 ^ 10) (31 * 2 ^ 10) (h % 2 ^ 15)
 
--- 0 for a float that is a zero or becomes a normal half, or one of 2^16 by rounding; 1 for any other
+-- 0 for a zero and for a float of 2^-14 and above and below 2^16, of either sign; 1 for any other
 abbrev pub irregularFloat : ℕ → ℕ
 irregularFloat b = irregular (113 * 2 ^ 23) (143 * 2 ^ 23) (b % 2 ^ 31)

@@ -40,6 +40,7 @@ holdsIndices Colour = false
 holdsIndices Rgba8Snorm = false
 holdsIndices (Unknown n) = false
 
+-- no indices: four zeros
 abbrev pub noIndices : Bytes4
 noIndices = record { a = 0; b = 0; c = 0; d = 0 }
 
@@ -52,6 +53,7 @@ abbrev pub shown : {A : Type 0} → (VertexComponentType → VertexAttributeValu
 shown see default s base none = default
 shown see default s base (some c) = see (c .«component_type») (valueAt (c .«component_type») s (base + c .offset))
 
+-- zero in every place
 abbrev pub zeroVec2 : Vec2
 zeroVec2 = record { x = zero32; y = zero32 }
 
@@ -118,11 +120,12 @@ unifiedRun d s stride count = runOf (λ (index : ℕ). unifiedVertex d s (index 
 abbrev pub componentInside : ℕ → ℕ → VertexComponent → Bool
 componentInside n base c = eqb (c .size) 0 || leb (base + c .offset + c .size) n
 
+-- and so do all components of a list
 unfoldable pub allInside : ℕ → ℕ → List VertexComponent → Bool
 allInside n base [] = true
 allInside n base (c ∷ cs) = componentInside n base c && allInside n base cs
 
--- and so do all components of all vertices
+-- and so do those of all vertices
 unfoldable pub verticesInside : VertexDeclaration → ℕ → ℕ → ℕ → Bool
 verticesInside d n stride zero = true
 verticesInside d n stride (suc count) = verticesInside d n stride count && allInside n (count * stride) (componentsOf d)

@@ -8,10 +8,9 @@ ghost use Prim.Native.Nat.{ℕ, _+_, _-_, _*_, _≤_, _<_};
 ghost use lib.ListN.{length, drop};
 ghost use Rattle.sections.specs.Edit.{part, overwrite};
 ghost use Rattle.sections.specs.Le.{le, bytes};
-ghost use Rattle.vertices.specs.Half.{f16ToF32, f32ToF16};
+ghost use Rattle.vertices.specs.Half.{decoded, f16ToF32, f32ToF16};
 ghost use Rattle.vertices.specs.Regular.{irregularHalf, irregularFloat};
 ghost use Rattle.vertices.specs.Runs.{numbers, run, converted, Converted};
-use crate::halves::f16_to_f32;
 use crate::halves::f32_to_f16;
 use crate::known::u16_at;
 use crate::known::u32_at;
@@ -269,7 +268,7 @@ fn decode_each(src: &[u8], dst: &mut [u8], first: usize, n: usize)
         set_u32(
             dst,
             (first + i) * 4,
-            f16_to_f32(u16_at(src, (first + i) * 2)),
+            float_of_half(u16_at(src, (first + i) * 2)),
         );
         i += 1;
     }
@@ -288,6 +287,33 @@ fn encode_each(src: &[u8], dst: &mut [u8], first: usize, n: usize)
         );
         i += 1;
     }
+}
+
+// What f16_to_f32 gives, by operations that the compiler does for several numbers at once.
+fn float_of_half(value: u16) -> u32
+    ensures { λ r. ⌜ r ≡ f16ToF32 value ⌝ }
+{
+    let bits = value as u32;
+    let sign = bits / 0x8000 * 0x8000_0000;
+    let rest = bits % 0x8000;
+    if rest == 0 {
+        return sign;
+    }
+    if rest < 0x400 {
+        return sign + float_of_subnormal(rest);
+    }
+    if rest < 0x7C00 {
+        return sign + (rest * 0x2000 + 0x3800_0000);
+    }
+    sign + (rest % 0x400 * 0x2000 + 0x7F80_0000)
+}
+
+// A subnormal half is a whole multiple of 2^-24: that multiple as a float, with an exponent 24 less.
+fn float_of_subnormal(rest: u32) -> u32
+    requires { ⌜ (0 < rest) × (rest < 1024) ⌝ }
+    ensures { λ r. ⌜ r ≡ decoded rest ⌝ }
+{
+    f32::to_bits(rest as f32) - 0x0C00_0000
 }
 
 // Fields that are known to fit.

@@ -2,7 +2,6 @@
 use Prim.Native.Nat.{_-_}
 use mathlib.Core.Path.{refl, _∙_}
 use native.Mathlib.Omega.{arith}
-use lib.ListN.{length}
 use Rattle.sections.proofs.Runs.{Forward, forward-start, forward-turn, forward-last}
 use Rattle.sections.proofs.edits.copy_blocks.Statement.{statement}
 use Rattle.sections.proofs.edits.copy_blocks.Tie as tie

@@ -1,5 +1,5 @@
 -- Forward with the part of src, one byte a turn.
-use Prim.Native.Nat.{_-_, _+_}
+use Prim.Native.Nat.{_-_}
 use mathlib.Core.Path.{sym}
 use native.Mathlib.Omega.{arith}
 use Rattle.sections.specs.Edit.{part}

@@ -1,6 +1,6 @@
 -- Forward with zeros, one byte a turn.
 use Prim.Native.Nat.{ℕ, _-_}
-use mathlib.Core.Path.{refl, sym, _∙_}
+use mathlib.Core.Path.{sym}
 use native.Mathlib.Omega.{arith}
 use lib.ListN.{replicate, length-replicate, getD-replicate}
 use Rattle.sections.proofs.Runs.{Forward, forward-start, forward-store, forward-end}

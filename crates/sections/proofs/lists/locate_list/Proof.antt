@@ -1,11 +1,10 @@
 -- Empty by the two tests, else what the lookup of all the bytes says; 2^32 elements of 2^8 bytes fit.
-use mathlib.Core.Path.{_≡_, sym, ap, _∙_}
 use native.Mathlib.Nat.{mul-le-mul}
 use native.Mathlib.Omega.{arith}
 use Prim.Native.Nat.{_*_, _≤_}
 use borrow.Author.Needs.{needs}
 use borrow.Author.Tests.{eq-eqb, ne-eqb}
-use Rattle.sections.specs.Lists.{locatedList, foundList}
+use Rattle.sections.specs.Lists.{locatedList}
 use Rattle.sections.proofs.lists.locate_list.Statement.{statement}
 use Rattle.sections.proofs.lists.locate_list.Tie as tie
 

@@ -1,5 +1,4 @@
 -- Fewer than 16 bytes: unresolved. Else the three fields of the bytes that were found.
-use mathlib.Core.Path.{sym, _∙_}
 use native.Mathlib.Omega.{arith}
 use borrow.Author.Needs.{needs}
 use Rattle.sections.specs.Lists.{headerAt}

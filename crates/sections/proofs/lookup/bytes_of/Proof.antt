@@ -1,5 +1,4 @@
 -- Each arm hands back the part of its own section.
-use mathlib.Core.Path.{_∙_, sym}
 use borrow.Author.Needs.{needs}
 use Rattle.sections.proofs.lookup.bytes_of.Statement.{statement}
 use Rattle.sections.proofs.lookup.bytes_of.Tie as tie

@@ -1,6 +1,5 @@
 -- Each return is one case of the definition, by the tests that led to it.
 use mathlib.Core.Path.{sym, _∙_}
-use mathlib.Core.Bool.{cond}
 use borrow.Author.Needs.{needs}
 use Rattle.sections.proofs.AddressLaws.{located-zero, located-graphics, located-system, located-nowhere}
 use Rattle.sections.proofs.lookup.locate.Statement.{statement}

@@ -1,9 +1,6 @@
 -- The place of the address, and then its bytes.
-use mathlib.Core.Path.{_∙_, ap}
-use mathlib.Core.List.{[]}
-use mathlib.Core.Option.{Option·getD}
 use borrow.Author.Needs.{needs}
-use Rattle.sections.specs.Address.{sections, rangeOf, resolved}
+use Rattle.sections.specs.Address.{resolved}
 use Rattle.sections.proofs.lookup.resolve.Statement.{statement}
 use Rattle.sections.proofs.lookup.resolve.Tie as tie
 

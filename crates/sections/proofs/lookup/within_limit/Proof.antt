@@ -1,5 +1,4 @@
 -- Each return is one outcome of the two comparisons.
-use mathlib.Core.Path.{_≡_, sym}
 use borrow.Author.Tests.{le-leb, lt-leb}
 use Rattle.sections.specs.Address.{withinLimit}
 use Rattle.sections.proofs.lookup.within_limit.Statement.{statement}

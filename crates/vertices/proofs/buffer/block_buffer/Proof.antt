@@ -1,5 +1,5 @@
 -- The first attempt that finds something, by the fields of the block.
-use mathlib.Core.Path.{_≡_, sym, _∙_}
+use mathlib.Core.Path.{sym, _∙_}
 use borrow.Author.Needs.{needs}
 use Rattle.vertices.proofs.BufferLaws.{block-legacy, block-second, block-gen9}
 use Rattle.vertices.proofs.buffer.block_buffer.Statement.{statement}

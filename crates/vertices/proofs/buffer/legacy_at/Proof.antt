@@ -1,5 +1,4 @@
 -- The attempt, with the declaration behind the info pointer.
-use mathlib.Core.Path.{_≡_}
 use borrow.Author.Needs.{needs}
 use Rattle.vertices.specs.Buffer.{legacyAt}
 use Rattle.vertices.proofs.buffer.legacy_at.Statement.{statement}

@@ -1,5 +1,5 @@
 -- A block of 0x80 bytes that finds something, else inline.
-use mathlib.Core.Path.{_≡_, sym, _∙_, ap}
+use mathlib.Core.Path.{sym, _∙_}
 use native.Mathlib.Omega.{arith}
 use borrow.Author.Needs.{needs}
 use Rattle.sections.proofs.AddressLaws.{resolved-whole, resolved-short}

@@ -1,5 +1,4 @@
 -- The attempt, without a declaration.
-use mathlib.Core.Path.{_≡_}
 use borrow.Author.Needs.{needs}
 use Rattle.vertices.specs.Buffer.{plainAt}
 use Rattle.vertices.proofs.buffer.plain_at.Statement.{statement}

@@ -1,6 +1,5 @@
 -- Fewer than 16 bytes: absent. Else the declaration in the bytes that were found.
 use native.Mathlib.Omega.{arith}
-use mathlib.Core.Path.{sym, _∙_, ap}
 use borrow.Author.Needs.{needs}
 use Rattle.vertices.specs.Buffer.{storedDeclaration}
 use Rattle.sections.proofs.AddressLaws.{resolved-whole, resolved-short}

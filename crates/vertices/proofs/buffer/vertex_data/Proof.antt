@@ -1,5 +1,4 @@
 -- Nothing by the three tests, else the lookup of all the bytes; 2^32 vertices of 2^16 bytes fit.
-use mathlib.Core.Path.{sym, _∙_}
 use native.Mathlib.Nat.{mul-le-mul}
 use native.Mathlib.Omega.{arith}
 use Prim.Native.Nat.{_*_, _≤_}

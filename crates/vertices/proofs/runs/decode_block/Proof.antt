@@ -1,5 +1,4 @@
 -- `decode_block`: both ways convert all 64 numbers, and where none is irregular the first may.
-use mathlib.Core.Path.{ap, _∙_}
 use native.Mathlib.Omega.{arith}
 use borrow.Author.Needs.{needs}
 use Rattle.vertices.specs.Runs.{converted}

@@ -1,10 +1,7 @@
 -- `decode_each`: the floats of the halves passed stand in dst, one number a turn.
-use Prim.Native.Nat.{_-_, _+_, _*_}
-use mathlib.Core.Path.{ap, _∙_}
+use Prim.Native.Nat.{_-_}
 use native.Mathlib.Omega.{arith}
 use borrow.Author.Needs.{needs}
-use Rattle.sections.specs.Edit.{overwrite}
-use Rattle.sections.specs.Le.{bytes}
 use Rattle.vertices.specs.Half.{f16ToF32}
 use Rattle.vertices.proofs.RunLoops.{Converting, converting-start, converting-one, converting-end}
 use Rattle.vertices.proofs.runs.decode_each.Statement.{statement}
@@ -35,6 +32,6 @@ decode-each-spec =
     (λ c.
     let called = c .before .before in
     let turn = called .before .before .before .before .before .loop in
-    converting-one (turn .inv) (omega arith) (cc (called .set-u32 .ensures, called .before .f16-to-f32 .ensures, called .before .before .u16-at .ensures)))
+    converting-one (turn .inv) (omega arith) (cc (called .set-u32 .ensures, called .before .float-of-half .ensures, called .before .before .u16-at .ensures)))
     (λ c. c .before .loop .inv .writing .same)
     (λ c. converting-end (c .before .loop .inv) (omega arith)))

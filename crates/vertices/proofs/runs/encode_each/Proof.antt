@@ -1,10 +1,7 @@
 -- `encode_each`: the halves of the floats passed stand in dst, one number a turn.
-use Prim.Native.Nat.{_-_, _+_, _*_}
-use mathlib.Core.Path.{ap, _∙_}
+use Prim.Native.Nat.{_-_}
 use native.Mathlib.Omega.{arith}
 use borrow.Author.Needs.{needs}
-use Rattle.sections.specs.Edit.{overwrite}
-use Rattle.sections.specs.Le.{bytes}
 use Rattle.vertices.specs.Half.{f32ToF16}
 use Rattle.vertices.proofs.RunLoops.{Converting, converting-start, converting-one, converting-end}
 use Rattle.vertices.proofs.runs.encode_each.Statement.{statement}

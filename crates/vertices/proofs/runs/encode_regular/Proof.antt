@@ -1,5 +1,5 @@
 -- `encode_regular`: the halves of the floats passed stand in dst, one a turn.
-use Prim.Native.Nat.{_-_, _+_, _*_}
+use Prim.Native.Nat.{_-_}
 use native.Mathlib.Omega.{arith}
 use Rattle.vertices.specs.Half.{f32ToF16}
 use Rattle.vertices.proofs.RunLoops.{Converting, converting-start, converting-one, converting-end}

@@ -1,5 +1,5 @@
 -- `floats_of_regular`: the floats of the halves passed stand in the array, one a turn.
-use Prim.Native.Nat.{_-_, _+_, _*_}
+use Prim.Native.Nat.{_-_}
 use native.Mathlib.Omega.{arith}
 use borrow.Author.Needs.{needs}
 use Rattle.vertices.specs.Half.{f16ToF32}

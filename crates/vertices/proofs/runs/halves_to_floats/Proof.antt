@@ -1,4 +1,5 @@
 -- `halves_to_floats`: where the bytes fit the run is converted, else nothing is written.
+use native.Mathlib.Omega.{arith}
 use borrow.Author.Needs.{needs}
 use Rattle.vertices.proofs.RunLoops.{converted-yes, converted-no}
 use Rattle.vertices.proofs.runs.halves_to_floats.Statement.{statement}
@@ -12,6 +13,6 @@ halves-to-floats-spec =
     (λ c κs. search needs)
     (λ c. search needs)
     (λ c. search needs)
-    (λ c. converted-yes (c .before .before .before .before .if1 .taken) (c .before .before .decode-run .ensures))
+    (λ c. converted-yes (omega arith) (c .before .before .decode-run .ensures))
     (λ c. search needs)
-    (λ c. converted-no (c .if1 .left)))
+    (λ c. converted-no (omega arith)))

@@ -1,8 +1,6 @@
 -- `put_floats`: the floats passed stand in dst, one a turn.
-use Prim.Native.Nat.{_-_, _+_, _*_}
-use mathlib.Core.Path.{_≡_, sym, _∙_}
+use Prim.Native.Nat.{_-_}
 use native.Mathlib.Omega.{arith}
-use lib.ListN.{length}
 use Rattle.vertices.proofs.RunLoops.{Putting, putting-start, putting-one, putting-end}
 use Rattle.vertices.proofs.runs.put_floats.Statement.{statement}
 use Rattle.vertices.proofs.runs.put_floats.Tie as tie

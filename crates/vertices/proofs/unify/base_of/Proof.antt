@@ -1,7 +1,7 @@
 -- The product of two numbers below 2^32 and 2^16 is below 2^48.
-use Rattle.vertices.proofs.UnifiedChecks.{product-bound}
-use borrow.Author.Needs.{needs}
 use native.Mathlib.Omega.{arith}
+use borrow.Author.Needs.{needs}
+use Rattle.vertices.proofs.UnifiedChecks.{product-bound}
 use Rattle.vertices.proofs.unify.base_of.Statement.{statement}
 use Rattle.vertices.proofs.unify.base_of.Tie as tie
 

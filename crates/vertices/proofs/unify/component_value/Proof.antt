@@ -1,9 +1,9 @@
 -- A component without a size has no value; any other ends inside the data.
-use Prim.Native.Nat.{_+_}
-use Rattle.vertices.proofs.UnifiedLaws.{sizeless-value}
-use borrow.Author.Needs.{needs}
 use mathlib.Core.Path.{sym, _∙_}
+use Prim.Native.Nat.{_+_}
 use native.Mathlib.Omega.{arith}
+use borrow.Author.Needs.{needs}
+use Rattle.vertices.proofs.UnifiedLaws.{sizeless-value}
 use Rattle.vertices.proofs.unify.component_value.Statement.{statement}
 use Rattle.vertices.proofs.unify.component_value.Tie as tie
 

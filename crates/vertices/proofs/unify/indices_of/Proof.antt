@@ -1,6 +1,6 @@
 -- The indices in the component, or none.
-use Rattle.vertices.specs.Plan.{planned}
 use borrow.Author.Needs.{needs}
+use Rattle.vertices.specs.Plan.{planned}
 use Rattle.vertices.proofs.unify.indices_of.Statement.{statement}
 use Rattle.vertices.proofs.unify.indices_of.Tie as tie
 

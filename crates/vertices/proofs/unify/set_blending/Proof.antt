@@ -1,6 +1,6 @@
 -- The parts, one behind the other, by `blending-written`.
-use Rattle.vertices.proofs.UnifiedBytes.{blending-written}
 use borrow.Author.Needs.{needs}
+use Rattle.vertices.proofs.UnifiedBytes.{blending-written}
 use Rattle.vertices.proofs.unify.set_blending.Statement.{statement}
 use Rattle.vertices.proofs.unify.set_blending.Tie as tie
 

@@ -1,8 +1,8 @@
 -- The four stores are `four-stores`.
-use Rattle.vertices.proofs.UnifiedBytes.{four-stores}
+use native.Mathlib.Omega.{arith}
 use borrow.Author.Needs.{needs}
 use lib.ListN.{length-set}
-use native.Mathlib.Omega.{arith}
+use Rattle.vertices.proofs.UnifiedBytes.{four-stores}
 use Rattle.vertices.proofs.unify.set_bytes4.Statement.{statement}
 use Rattle.vertices.proofs.unify.set_bytes4.Tie as tie
 

@@ -1,6 +1,6 @@
 -- One behind the other, by `colours-written`.
-use Rattle.vertices.proofs.UnifiedBytes.{colours-written}
 use borrow.Author.Needs.{needs}
+use Rattle.vertices.proofs.UnifiedBytes.{colours-written}
 use Rattle.vertices.proofs.unify.set_colours.Statement.{statement}
 use Rattle.vertices.proofs.unify.set_colours.Tie as tie
 

@@ -1,6 +1,6 @@
 -- The parts, one behind the other, by `placement-written`.
-use Rattle.vertices.proofs.UnifiedBytes.{placement-written}
 use borrow.Author.Needs.{needs}
+use Rattle.vertices.proofs.UnifiedBytes.{placement-written}
 use Rattle.vertices.proofs.unify.set_placement.Statement.{statement}
 use Rattle.vertices.proofs.unify.set_placement.Tie as tie
 

@@ -1,6 +1,6 @@
 -- The parts, one behind the other, by `surface-written`.
-use Rattle.vertices.proofs.UnifiedBytes.{surface-written}
 use borrow.Author.Needs.{needs}
+use Rattle.vertices.proofs.UnifiedBytes.{surface-written}
 use Rattle.vertices.proofs.unify.set_surface.Statement.{statement}
 use Rattle.vertices.proofs.unify.set_surface.Tie as tie
 

@@ -1,6 +1,6 @@
 -- One behind the other, by `texcoords-written`.
-use Rattle.vertices.proofs.UnifiedBytes.{texcoords-written}
 use borrow.Author.Needs.{needs}
+use Rattle.vertices.proofs.UnifiedBytes.{texcoords-written}
 use Rattle.vertices.proofs.unify.set_texcoords.Statement.{statement}
 use Rattle.vertices.proofs.unify.set_texcoords.Tie as tie
 

@@ -1,8 +1,8 @@
 -- The floats, one behind the other, by `put-all`.
-use Rattle.vertices.proofs.UnifiedBytes.{put-all}
-use borrow.Author.Needs.{needs}
 use mathlib.Core.List.{[], _∷_}
 use native.Mathlib.Omega.{arith}
+use borrow.Author.Needs.{needs}
+use Rattle.vertices.proofs.UnifiedBytes.{put-all}
 use Rattle.vertices.proofs.unify.set_vec4.Statement.{statement}
 use Rattle.vertices.proofs.unify.set_vec4.Tie as tie
 

@@ -1,6 +1,6 @@
 -- The parts, one behind the other, by `vertex-written`.
-use Rattle.vertices.proofs.UnifiedBytes.{vertex-written}
 use borrow.Author.Needs.{needs}
+use Rattle.vertices.proofs.UnifiedBytes.{vertex-written}
 use Rattle.vertices.proofs.unify.set_vertex.Statement.{statement}
 use Rattle.vertices.proofs.unify.set_vertex.Tie as tie
 

@@ -1,10 +1,10 @@
 -- Check 9, then check 10, then all vertices are written.
-use Rattle.vertices.proofs.UnifiedChecks.{vertices-true}
-use Rattle.vertices.proofs.UnifiedLaws.{plan-readable, planned-run, unified-outside, unified-short, unified-written}
-use borrow.Author.Needs.{needs}
-use borrow.Author.Tests.{not-true, not-false}
 use mathlib.Core.Path.{sym, _∙_}
 use native.Mathlib.Omega.{arith}
+use borrow.Author.Needs.{needs}
+use borrow.Author.Tests.{not-true, not-false}
+use Rattle.vertices.proofs.UnifiedChecks.{vertices-true}
+use Rattle.vertices.proofs.UnifiedLaws.{plan-readable, planned-run, unified-outside, unified-short, unified-written}
 use Rattle.vertices.proofs.unify.unified_vertices.Statement.{statement}
 use Rattle.vertices.proofs.unify.unified_vertices.Tie as tie
 

@@ -1,8 +1,8 @@
 -- The vertices passed stand in out, one a turn.
 use Prim.Native.Nat.{ℕ, _-_, _*_}
-use Rattle.vertices.proofs.UnifiedBytes.{Rows, rows-start, rows-turn, rows-end}
-use Rattle.vertices.specs.Plan.{plannedVertex}
 use native.Mathlib.Omega.{arith}
+use Rattle.vertices.specs.Plan.{plannedVertex}
+use Rattle.vertices.proofs.UnifiedBytes.{Rows, rows-start, rows-turn, rows-end}
 use Rattle.vertices.proofs.unify.unify_all.Statement.{statement}
 use Rattle.vertices.proofs.unify.unify_all.Tie as tie
 

@@ -1,6 +1,6 @@
 -- The component's value seen in the field's way, or the default.
-use Rattle.vertices.specs.Plan.{planned}
 use borrow.Author.Needs.{needs}
+use Rattle.vertices.specs.Plan.{planned}
 use Rattle.vertices.proofs.unify.vec3_of.Statement.{statement}
 use Rattle.vertices.proofs.unify.vec3_of.Tie as tie
 

@@ -1,6 +1,6 @@
 -- Each field is made by its own function.
-use Rattle.vertices.proofs.UnifiedLaws.{made-vertex}
 use borrow.Author.Needs.{needs}
+use Rattle.vertices.proofs.UnifiedLaws.{made-vertex}
 use Rattle.vertices.proofs.unify.vertex_of.Statement.{statement}
 use Rattle.vertices.proofs.unify.vertex_of.Tie as tie
 

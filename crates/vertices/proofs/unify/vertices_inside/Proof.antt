@@ -1,8 +1,8 @@
 -- The last vertex decides, unless there is none or nothing to read.
-use Rattle.vertices.proofs.UnifiedChecks.{last-compared, nothing-read, vertices-none}
-use borrow.Author.Needs.{needs}
 use mathlib.Core.Path.{sym}
 use native.Mathlib.Omega.{arith}
+use borrow.Author.Needs.{needs}
+use Rattle.vertices.proofs.UnifiedChecks.{last-compared, nothing-read, vertices-none}
 use Rattle.vertices.proofs.unify.vertices_inside.Statement.{statement}
 use Rattle.vertices.proofs.unify.vertices_inside.Tie as tie
 
