@@ -8,7 +8,8 @@ use Rattle.sections.specs.Le.{field}
 use Rattle.sections.specs.Address.{Sections, located, resolved}
 use Rattle.sections.specs.declared.lookup.Located.{Located}
 use Rattle.sections.specs.declared.lookup.Located.the-variants.{System, Graphics, Nothing}
-use Rattle.vertices.specs.Declaration.{declarationAt}
+use Rattle.vertices.specs.Declaration.{declarationAt, positionOnly}
+use Rattle.vertices.specs.declared.declaration.VertexDeclaration.{VertexDeclaration}
 use Rattle.vertices.specs.declared.buffer.VertexBufferLayout.{VertexBufferLayout}
 use Rattle.vertices.specs.declared.buffer.VertexBufferLayout.the-variants.{Legacy, LegacyData2, Gen9, GeometryInline}
 use Rattle.vertices.specs.declared.buffer.StoredDeclaration.{StoredDeclaration}
@@ -36,6 +37,11 @@ declarationIn (some b) = Declaration (declarationAt b 0)
 -- the declaration in the 16 bytes behind the info pointer, if they resolve
 unfoldable pub storedDeclaration : Sections → ℕ → StoredDeclaration
 storedDeclaration s info = declarationIn (resolved s info 16)
+
+-- what reading goes by: `position_only` of the buffer's stride where none is stored
+abbrev pub orPositionOnly : StoredDeclaration → ℕ → VertexDeclaration
+orPositionOnly (Declaration d) stride = d
+orPositionOnly Absent stride = positionOnly stride
 
 -- an attempt: the buffer, if its data lies somewhere
 abbrev pub foundAt : VertexBufferLayout → ℕ → ℕ → ℕ → ℕ → StoredDeclaration → Located → Option VertexBuffer

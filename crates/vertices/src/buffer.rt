@@ -1,7 +1,7 @@
 // Locating the vertices of a geometry: the layouts of a vertex buffer block, tried in order, then the geometry's own pointer.
 ghost use mathlib.Core.Path.{_≡_};
 ghost use Rattle.sections.specs.Address.{sections};
-ghost use Rattle.vertices.specs.Buffer.{layoutNumber, vertexData, storedDeclaration, foundAt, foundBuffer, legacyAt, plainAt, blockBuffer, vertexBufferAt};
+ghost use Rattle.vertices.specs.Buffer.{layoutNumber, vertexData, storedDeclaration, orPositionOnly, foundAt, foundBuffer, legacyAt, plainAt, blockBuffer, vertexBufferAt};
 use crate::declaration::VertexDeclaration;
 use crate::declaration::read_declaration;
 use sections::Located;
@@ -49,6 +49,18 @@ impl VertexBufferLayout {
             VertexBufferLayout::LegacyData2 => 1,
             VertexBufferLayout::Gen9 => 2,
             VertexBufferLayout::GeometryInline => 3,
+        }
+    }
+}
+
+impl StoredDeclaration {
+    // The stored declaration, or `position_only` of the buffer's stride.
+    pub fn or_position_only(self, vertex_stride: u16) -> VertexDeclaration
+        ensures { λ r. ⌜ r ≡ orPositionOnly self «vertex_stride» ⌝ }
+    {
+        match self {
+            StoredDeclaration::Declaration(d) => d,
+            StoredDeclaration::Absent => VertexDeclaration::position_only(vertex_stride),
         }
     }
 }
