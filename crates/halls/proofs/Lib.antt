@@ -1,0 +1,11 @@
+pub mod ViewLaws
+pub mod Measuring
+pub mod ListBytes
+pub mod ModelLaws
+pub mod MeasuringModels
+pub mod Widening
+pub mod HeldLaws
+pub mod ViewRecords
+pub mod WritingGeometries
+pub mod SecondPass
+pub mod WritingModel

@@ -1,0 +1,13 @@
+// What a call on a list or a hall answers.
+
+// The number of the check that failed. `needed` is how long the lent buffer would have to be where its length was the reason, else 0.
+pub struct Refusal {
+    pub check: u8,
+    pub needed: u64,
+}
+
+// An acceptance gives the bytes written.
+pub enum Answer {
+    Accepted(u64),
+    Refused(Refusal),
+}

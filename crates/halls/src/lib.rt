@@ -1,0 +1,14 @@
+// Halls: the list of a drawable's models and geometries.
+mod answer;
+mod list;
+mod measure;
+mod model;
+mod records;
+mod view;
+mod write;
+
+pub use answer::Answer;
+pub use answer::Refusal;
+pub use list::hall_list;
+pub use model::bone_index;
+pub use model::is_skinned;
