@@ -3,6 +3,7 @@ mod answer;
 mod list;
 mod measure;
 mod model;
+mod pointers;
 mod records;
 mod view;
 mod write;

@@ -8,8 +8,8 @@ use Prim.Native.Nat.{_*_, _≤_}
 use borrow.Author.Needs.{needs}
 use borrow.Author.Tests.{eq-eqb, ne-eqb}
 use Rattle.halls.specs.Measure.{listBytes}
-use Rattle.halls.proofs.measure.list_bytes.Statement.{statement}
-use Rattle.halls.proofs.measure.list_bytes.Tie as tie
+use Rattle.halls.proofs.pointers.list_bytes.Statement.{statement}
+use Rattle.halls.proofs.pointers.list_bytes.Tie as tie
 
 returns : tie.Need-returns
 unfolding listBytes

@@ -2,8 +2,8 @@
 use mathlib.Core.Path.{_≡_, sym, ap, _∙_}
 use borrow.Author.Needs.{needs}
 use Rattle.halls.proofs.ListBytes.{unresolved, list-missing}
-use Rattle.halls.proofs.measure.unresolved_list.Statement.{statement}
-use Rattle.halls.proofs.measure.unresolved_list.Tie as tie
+use Rattle.halls.proofs.pointers.unresolved_list.Statement.{statement}
+use Rattle.halls.proofs.pointers.unresolved_list.Tie as tie
 
 pub unresolved-list-spec : {M : Type 1} → statement M
 unresolved-list-spec =
