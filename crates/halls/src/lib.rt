@@ -5,6 +5,7 @@ mod measure;
 mod model;
 mod records;
 mod view;
+mod widen;
 mod write;
 
 pub use answer::Answer;
