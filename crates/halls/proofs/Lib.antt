@@ -9,3 +9,4 @@ pub mod ViewRecords
 pub mod WritingGeometries
 pub mod SecondPass
 pub mod WritingModel
+pub mod ReaderParts
