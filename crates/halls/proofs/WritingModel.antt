@@ -5,38 +5,29 @@ use mathlib.Core.Option.{Option, none, some, Option·map}
 use Prim.Native.Nat.{ℕ, _+_, _*_, _/_, _≤_}
 use native.Mathlib.Omega.{arith}
 use lib.ListN.{length, length-append}
-use Rattle.sections.specs.Address.{Sections}
+use Rattle.sections.specs.Address.{Sections, resolved}
 use Rattle.sections.specs.Edit.{overwrite}
 use Rattle.sections.specs.Le.{bytes}
 use Rattle.sections.proofs.EditLaws.{overwrite-then}
 use Rattle.sections.proofs.LeLaws.{length-bytes}
 use Rattle.vertices.specs.Runs.{numbers, run}
 use Rattle.vertices.proofs.RunLaws.{length-run, numbers-length}
-use Rattle.halls.specs.List.{recordBytes, modelRecord, writeGeometries, writeModel}
-use Rattle.halls.specs.Blocks.{ModelBlock}
+use Rattle.halls.specs.List.{recordBytes, modelRecord, writeGeometries, writeModel, write}
+use Rattle.halls.specs.Blocks.{ModelBlock, modelBlock}
 use Rattle.halls.specs.Measure.{listBytes}
 use Rattle.halls.specs.Reading.{orEmpty, listAt, mappingOf}
-use Rattle.halls.specs.View.{geometriesAt, modelOf}
-use Rattle.halls.proofs.ListBytes.{list-numbers}
-use Rattle.halls.proofs.ModelLaws.{even-whole}
+use Rattle.halls.specs.View.{geometriesAt, modelOf, modelIn}
+use Rattle.halls.proofs.EachLaws.{each-one}
+use Rattle.halls.proofs.ListBytes.{wholeNumbers, list-or-empty, even-whole}
 use Rattle.halls.proofs.ViewLaws.{record-length}
-
-whole-or-none : (width : ℕ) → 0 / width ≡ 0 → (o : Option (List ℕ)) → orEmpty (Option·map (λ b. numbers width (length b / width) b) o) ≡ numbers width (length (orEmpty o) / width) (orEmpty o)
-unfolding numbers
-whole-or-none width z none = rw z
-whole-or-none width z (some b) = refl
 
 module _ (s : Sections) (b : ModelBlock) (mapping pointers : List ℕ) (m : mapping ≡ orEmpty (listBytes s 2 (b .count) (b .mapping))) (p : pointers ≡ orEmpty (listBytes s 8 (b .count) (b .geometries))) where
   mapping-is : mappingOf s b ≡ numbers 2 (length mapping / 2) mapping
   unfolding mappingOf
-  mapping-is =
-      ap orEmpty (list-numbers s 2 (b .count) (b .mapping) (omega arith) (omega arith)) ∙ whole-or-none 2 (omega arith) (listBytes s 2 (b .count) (b .mapping))
-      ∙ ap (λ (l : List ℕ). numbers 2 (length l / 2) l) (sym m)
+  mapping-is = list-or-empty s 2 (b .count) (b .mapping) refl (omega arith) ∙ ap (wholeNumbers 2) (sym m)
 
   pointers-are : orEmpty (listAt s 8 (b .count) (b .geometries)) ≡ numbers 8 (length pointers / 8) pointers
-  pointers-are =
-      ap orEmpty (list-numbers s 8 (b .count) (b .geometries) (omega arith) (omega arith)) ∙ whole-or-none 8 (omega arith) (listBytes s 8 (b .count) (b .geometries))
-      ∙ ap (λ (l : List ℕ). numbers 8 (length l / 8) l) (sym p)
+  pointers-are = list-or-empty s 8 (b .count) (b .geometries) refl (omega arith) ∙ ap (wholeNumbers 8) (sym p)
 
   -- the parts, one behind the other
   pub model-parts : recordBytes 1 (bytes 4 (b .binding) ++ (bytes 2 (b .mask) ++ run 2 (numbers 2 (length mapping / 2) mapping))) ++ writeGeometries (geometriesAt s (numbers 2 (length mapping / 2) mapping) (numbers 8 (length pointers / 8) pointers))
@@ -69,3 +60,7 @@ module _ (s : Sections) (b : ModelBlock) (mapping pointers : List ℕ) (m : mapp
       g ∙ ap (λ (l : List ℕ). overwrite l (at + (12 + length mapping)) geometries) w
       ∙ overwrite-then out at (12 + length mapping) (head binding mask) geometries (head-length binding mask) (omega (arith, model-reach))
       ∙ ap (λ k. overwrite out at (head k mask ++ geometries)) e ∙ ap (λ k. overwrite out at (head (b .binding) k ++ geometries)) f ∙ ap (overwrite out at) model-parts
+
+-- the model behind a pointer
+pub model-in : (s : Sections) (pointer : ℕ) (raw : List ℕ) → resolved s pointer 0x30 ≡ some raw → writeModel (modelOf s (modelBlock raw)) ≡ write (modelIn s (resolved s pointer 0x30))
+model-in s pointer raw e = sym (each-one writeModel (modelOf s (modelBlock raw))) ∙ ap (λ (o : Option (List ℕ)). write (modelIn s o)) (sym e)

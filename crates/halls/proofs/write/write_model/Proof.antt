@@ -8,7 +8,7 @@ use Rattle.sections.specs.Le.{field}
 use Rattle.halls.specs.Blocks.{modelBlock}
 use Rattle.halls.specs.Measure.{listBytes}
 use Rattle.halls.specs.Reading.{orEmpty}
-use Rattle.halls.proofs.ModelLaws.{list-short}
+use Rattle.halls.proofs.ListBytes.{list-short}
 use Rattle.halls.proofs.WritingModel.{mapping-even, model-reach, model-written}
 use Rattle.halls.proofs.write.write_model.Statement.{statement}
 use Rattle.halls.proofs.write.write_model.Tie as tie
