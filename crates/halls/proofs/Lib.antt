@@ -13,4 +13,5 @@ pub mod WritingItems
 pub mod Walks
 pub mod SecondPass
 pub mod WritingModel
+pub mod ReaderParts
 pub mod ListingLaws

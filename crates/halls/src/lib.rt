@@ -4,8 +4,10 @@ mod list;
 mod measure;
 mod model;
 mod pointers;
+mod reader;
 mod records;
 mod view;
+mod widen;
 mod write;
 
 pub use answer::Answer;
@@ -13,3 +15,4 @@ pub use answer::Refusal;
 pub use list::hall_list;
 pub use model::bone_index;
 pub use model::is_skinned;
+pub use reader::ResReader;
