@@ -9,3 +9,5 @@ pub mod ViewRecords
 pub mod WritingGeometries
 pub mod SecondPass
 pub mod WritingModel
+pub mod RecordLaws
+pub mod TriangleLaws

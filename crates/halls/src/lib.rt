@@ -4,6 +4,7 @@ mod list;
 mod measure;
 mod model;
 mod records;
+mod triangles;
 mod view;
 mod write;
 
@@ -12,3 +13,4 @@ pub use answer::Refusal;
 pub use list::hall_list;
 pub use model::bone_index;
 pub use model::is_skinned;
+pub use triangles::triangle_count;
