@@ -15,3 +15,5 @@ pub mod SecondPass
 pub mod WritingModel
 pub mod ReaderParts
 pub mod ListingLaws
+pub mod RecordLaws
+pub mod TriangleLaws

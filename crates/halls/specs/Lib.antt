@@ -5,3 +5,5 @@ pub mod View
 pub mod Measure
 pub mod Outcome
 pub mod Listing
+pub mod Records
+pub mod Triangles
