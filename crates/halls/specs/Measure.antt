@@ -38,6 +38,10 @@ measuredGeometries r = measured (λ (gs : List Geometry). length (writeGeometrie
 abbrev pub measuredModel : Reading Model → Measured
 measuredModel r = measured (λ (m : Model). length (writeModel m)) (λ (m : Model). length (m .geometries)) r
 
+-- a model's, from that of its geometries and the bytes of its mapping
+abbrev pub withRecord : ℕ → Measured → Measured
+withRecord mapping v = cond (eqb (v .refusal) 0) (record { refusal = 0; «length» = 12 + mapping + v .«length»; count = v .count }) v
+
 -- the model behind a pointer: check 3, then its block
 unfoldable pub modelAt : Sections → ℕ → ℕ → Reading Model
 modelAt s before pointer = need 3 (resolved s pointer 0x30) (λ b. readModel s before (modelBlock b))

@@ -5,7 +5,7 @@ ghost use lib.ListN.{length};
 ghost use Rattle.sections.specs.Address.{sections};
 ghost use Rattle.vertices.specs.Runs.{numbers};
 ghost use Rattle.halls.specs.Reading.{readGeometries, readModels};
-ghost use Rattle.halls.specs.Measure.{lengthAt, measuredGeometries, measuredModel, measuredModels, modelAt};
+ghost use Rattle.halls.specs.Measure.{lengthAt, measuredGeometries, withRecord, measuredModel, measuredModels, modelAt};
 use crate::pointers::list_bytes;
 use crate::pointers::unresolved_list;
 use crate::view::geometry_view;
@@ -112,12 +112,20 @@ pub fn measure_model<'a>(
     let pointers = list_bytes(system, graphics, 8, count, geometries);
     let mapping = list_bytes(system, graphics, 2, count, u64_le(raw, 0x20));
     let inner = measure_geometries(system, graphics, pointers, mapping, before);
+    with_record(inner, mapping.len() as u64)
+}
+
+// A model's measure from that of its geometries: a refusal stays, else its record with the mapping's bytes comes before them.
+fn with_record(inner: Measured, mapping: u64) -> Measured
+    requires { ⌜ (inner .«length» ≤ 2 ^ 63) × (mapping < 2 ^ 20) ⌝ }
+    ensures { λ r. ⌜ r ≡ withRecord mapping inner ⌝ }
+{
     if inner.refusal != 0 {
         return inner;
     }
     Measured {
         refusal: 0,
-        length: 12 + mapping.len() as u64 + inner.length,
+        length: 12 + mapping + inner.length,
         count: inner.count,
     }
 }

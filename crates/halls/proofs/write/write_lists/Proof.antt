@@ -3,7 +3,8 @@ use native.Mathlib.Omega.{arith}
 use borrow.Author.Needs.{needs}
 use Rattle.sections.specs.Address.{sections}
 use Rattle.halls.specs.Blocks.{modelBlock}
-use Rattle.halls.proofs.WritingModel.{mapping-even, mapping-few, pointers-few, model-reach, model-written}
+use Rattle.halls.proofs.ModelLaws.{mapping-even, mapping-few, pointers-few}
+use Rattle.halls.proofs.WritingModel.{model-reach, model-written}
 use Rattle.halls.proofs.write.write_lists.Statement.{statement}
 use Rattle.halls.proofs.write.write_lists.Tie as tie
 

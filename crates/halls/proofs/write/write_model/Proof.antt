@@ -2,7 +2,7 @@
 use native.Mathlib.Omega.{arith}
 use borrow.Author.Needs.{needs}
 use Rattle.sections.specs.Address.{sections}
-use Rattle.halls.proofs.WritingModel.{lists-of}
+use Rattle.halls.proofs.ModelLaws.{lists-of}
 use Rattle.halls.proofs.write.write_model.Statement.{statement}
 use Rattle.halls.proofs.write.write_model.Tie as tie
 
