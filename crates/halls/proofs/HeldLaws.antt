@@ -3,16 +3,15 @@ use mathlib.Core.Path.{_≡_, refl, sym, ap, _∙_}
 use mathlib.Core.Bool.{Bool, true, false, cond}
 use mathlib.Core.List.{List, [], _++_}
 use mathlib.Core.Logic.{_⊎_, ⊎-elim}
-use Prim.Native.Nat.{ℕ, _+_, _*_, _^_, _≤_, _<_}
+use Prim.Native.Nat.{ℕ, _+_, _*_, _^_, _<_}
 use native.Mathlib.Omega.{arith}
-use borrow.Author.Tests.{ne-eqb}
 use lib.Dec.{eqb}
-use lib.ListN.{length, getD, take}
+use lib.ListN.{length, getD}
 use lib.Seq.{take-all}
 use Rattle.sections.specs.Le.{bytes}
 use Rattle.vertices.specs.Runs.{numbers, run}
 use Rattle.vertices.proofs.RunLaws.{length-run, numbers-length, run-numbers}
-use Rattle.halls.specs.List.{Indices, recordBytes, indicesRecord}
+use Rattle.halls.specs.List.{recordBytes, indicesRecord}
 use Rattle.halls.specs.View.{HeldIn, heldCount, indicesIn}
 use Rattle.halls.specs.declared.view.IndexView.{IndexView}
 

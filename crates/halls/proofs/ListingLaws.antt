@@ -17,7 +17,7 @@ use Rattle.halls.specs.List.{Model, each, write}
 use Rattle.halls.specs.Listing.{fitted, hallList}
 use Rattle.halls.specs.Measure.{missing, listBytes, measuredModels, geometriesIn}
 use Rattle.halls.specs.Outcome.{Outcome, refusal, written, answerOf, after}
-use Rattle.halls.specs.Reading.{Reading, refused, read, need, orEmpty, listAt, readModels, readHeader, readList}
+use Rattle.halls.specs.Reading.{Reading, read, need, orEmpty, listAt, readModels, readHeader, readList}
 use Rattle.halls.specs.View.{modelsAt}
 use Rattle.halls.specs.declared.answer.Answer.{Answer}
 use Rattle.halls.specs.declared.measure.Measured.{Measured}

@@ -1,8 +1,8 @@
 -- A model behind a pointer: its lists, its refusals, and what its reading is made of.
 use mathlib.Core.Path.{_≡_, refl, sym, ap, _∙_}
 use mathlib.Core.Bool.{Bool, true, false, cond}
-use mathlib.Core.List.{List, [], _∷_, _++_}
-use mathlib.Core.Option.{Option, none, some}
+use mathlib.Core.List.{List, [], _∷_}
+use mathlib.Core.Option.{none, some}
 use Prim.Native.Nat.{ℕ, suc, _+_, _*_, _/_, _^_, _≤_, _<_}
 use native.Mathlib.Omega.{arith}
 use lib.Dec.{eqb, ltb}
@@ -10,7 +10,6 @@ use lib.ListN.{length, length-append}
 use Rattle.sections.specs.Address.{Sections, resolved}
 use Rattle.sections.specs.Le.{field}
 use Rattle.sections.proofs.LeLaws.{length-bytes}
-use Rattle.vertices.specs.Runs.{numbers}
 use Rattle.vertices.proofs.RunLaws.{length-run, numbers-length}
 use Rattle.halls.specs.List.{Geometry, Model, writeGeometries, modelRecord, writeModel}
 use Rattle.halls.specs.Blocks.{ModelBlock, modelBlock}

@@ -2,7 +2,7 @@
 use mathlib.Core.Path.{_≡_, refl, ap, _∙_}
 use mathlib.Core.Bool.{Bool, true, false, cond}
 use mathlib.Core.List.{List, [], _∷_, _++_}
-use mathlib.Core.Option.{Option, none, some}
+use mathlib.Core.Option.{Option, none}
 use Prim.Native.Nat.{ℕ, suc, _+_}
 use borrow.Author.Tests.{eqb-true}
 use lib.Dec.{eqb, ltb}
@@ -11,7 +11,7 @@ use Rattle.sections.specs.Address.{Sections, resolved, rangeOf}
 use Rattle.sections.proofs.AddressLaws.{located-zero}
 use Rattle.halls.specs.List.{Geometry, Model}
 use Rattle.halls.specs.Blocks.{ModelBlock, modelBlock, geometryBlock}
-use Rattle.halls.specs.Reading.{Reading, refused, read, need, andThen, first, rest, orEmpty, listAt, mappingOf, geometryOf, readGeometries, readModel, readModels}
+use Rattle.halls.specs.Reading.{refused, read, need, andThen, first, rest, orEmpty, listAt, mappingOf, geometryOf, readGeometries, readModel, readModels}
 use Rattle.halls.specs.View.{geometryIn, geometriesAt, modelOf, modelIn, modelsAt}
 use Rattle.halls.proofs.ReadingLaws.{read-injective, not-read, need-read, then-read}
 

@@ -1,5 +1,5 @@
 -- The view of a geometry: its length is that of the geometry's records.
-use mathlib.Core.Path.{_≡_, refl, sym, ap, _∙_}
+use mathlib.Core.Path.{_≡_, refl, ap, _∙_}
 use mathlib.Core.Bool.{Bool, true, false, cond}
 use mathlib.Core.List.{List, [], _++_, append-assoc}
 use mathlib.Core.Logic.{_⊎_, ⊎-elim}
@@ -17,8 +17,7 @@ use Rattle.sections.proofs.LeLaws.{length-bytes}
 use Rattle.sections.specs.declared.lookup.Located.{Located}
 use Rattle.sections.specs.declared.lookup.Located.the-variants.{System, Graphics, Nothing}
 use Rattle.vertices.specs.Buffer.{foundBuffer, layoutNumber, vertexBufferAt, orElse}
-use Rattle.vertices.specs.Runs.{numbers, run}
-use Rattle.vertices.specs.Declaration.{declarationBytes}
+use Rattle.vertices.specs.Runs.{numbers}
 use Rattle.vertices.proofs.BufferLaws.{FoundData, buffer-data}
 use Rattle.vertices.proofs.DeclarationLaws.{declaration-length}
 use Rattle.vertices.proofs.RunLaws.{length-run, numbers-length}

@@ -1,7 +1,7 @@
 -- A view of resolved blocks: its records are those of the geometry that is read, and its places hold what it says.
 use mathlib.Core.Path.{_≡_, refl, sym, ap, subst, _∙_}
 use mathlib.Core.Bool.{Bool, true, false, cond}
-use mathlib.Core.List.{List, [], _++_, append-assoc, append-nil}
+use mathlib.Core.List.{List, _++_, append-assoc, append-nil}
 use mathlib.Core.Logic.{_⊎_, ⊎-elim, inl, inr}
 use mathlib.Core.Option.{Option, none, some, Option·map}
 use Prim.{tt}
@@ -21,7 +21,7 @@ use Rattle.vertices.proofs.BufferLaws.{FoundData, buffer-data}
 use Rattle.halls.specs.List.{each, optional, geometryRecord, declarationRecord, verticesRecord, indicesRecord, writeGeometry, writeGeometries}
 use Rattle.halls.specs.Blocks.{GeometryBlock, geometryBlock, IndexBlock, indexBlock}
 use Rattle.halls.specs.Reading.{orEmpty, storedIn, verticesOf, indicesOf, geometryWith, geometryOf}
-use Rattle.halls.specs.View.{HeldIn, BufferHeld, IndicesHeld, seenAt, viewAt, sizedView, orView, blockView, geometryView, viewWith, bufferRecords, indexRecord, indexViewIn, viewRecords, numbersSeen, viewLength, geometryIn}
+use Rattle.halls.specs.View.{BufferHeld, IndicesHeld, seenAt, viewAt, sizedView, orView, blockView, geometryView, viewWith, bufferRecords, indexRecord, indexViewIn, viewRecords, numbersSeen, viewLength, geometryIn}
 use Rattle.halls.specs.declared.view.FoundIndices.{FoundIndices}
 use Rattle.halls.specs.declared.view.FoundIndices.the-variants.{Indices as Seen, Absent as Unseen}
 use Rattle.halls.specs.declared.view.GeometryView.{GeometryView}

@@ -1,21 +1,20 @@
 -- A model's record and its geometries, from the bytes of its mapping and of its pointers.
-use mathlib.Core.Path.{_≡_, refl, sym, ap, _∙_}
-use mathlib.Core.List.{List, [], _++_}
-use mathlib.Core.Option.{Option, none, some, Option·map}
-use Prim.Native.Nat.{ℕ, _+_, _*_, _/_, _≤_, _<_}
+use mathlib.Core.Path.{_≡_, sym, ap, _∙_}
+use mathlib.Core.List.{List, _++_}
+use mathlib.Core.Option.{Option, some}
+use Prim.Native.Nat.{ℕ, _+_, _/_, _≤_}
 use native.Mathlib.Omega.{arith}
 use lib.ListN.{length, length-append}
 use Rattle.sections.specs.Address.{Sections, resolved}
 use Rattle.sections.specs.Edit.{overwrite}
-use Rattle.sections.specs.Le.{bytes, field}
+use Rattle.sections.specs.Le.{bytes}
 use Rattle.sections.proofs.EditLaws.{overwrite-then}
 use Rattle.sections.proofs.LeLaws.{length-bytes}
 use Rattle.vertices.specs.Runs.{numbers, run}
 use Rattle.vertices.proofs.RunLaws.{length-run, numbers-length}
 use Rattle.halls.specs.List.{recordBytes, modelRecord, writeGeometries, writeModel, write}
 use Rattle.halls.specs.Blocks.{ModelBlock, modelBlock}
-use Rattle.halls.specs.Measure.{listBytes}
-use Rattle.halls.specs.Reading.{orEmpty, listAt, mappingOf}
+use Rattle.halls.specs.Reading.{mappingOf}
 use Rattle.halls.specs.View.{ListsOf, geometriesAt, modelOf, modelIn}
 use Rattle.halls.proofs.EachLaws.{each-one}
 use Rattle.halls.proofs.ModelLaws.{mapping-numbers, pointer-numbers, mapping-even}

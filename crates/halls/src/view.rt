@@ -3,7 +3,7 @@ ghost use mathlib.Core.Path.{_≡_};
 ghost use Prim.Native.Nat.{_<_, _^_};
 ghost use Rattle.sections.specs.Address.{sections, resolved};
 ghost use Rattle.halls.specs.Blocks.{indexBlock, geometryBlock};
-ghost use Rattle.halls.specs.View.{seenAt, viewAt, sizedView, blockView, indexViewIn, geometryView, viewLength, declarationLength, bufferLength, indicesLength, heldCount, bufferIn, orView};
+ghost use Rattle.halls.specs.View.{viewAt, sizedView, blockView, indexViewIn, geometryView, viewLength, declarationLength, bufferLength, indicesLength, heldCount, bufferIn, orView};
 ghost use Rattle.halls.specs.Reading.{vertexCountOf};
 use sections::Located;
 use sections::locate;

@@ -1,5 +1,5 @@
 -- Fewer than 0x98 bytes: 0. Else the length of the view, which is that of the records.
-use mathlib.Core.Path.{_≡_, sym, ap, _∙_}
+use mathlib.Core.Path.{ap, _∙_}
 use native.Mathlib.Omega.{arith}
 use borrow.Author.Needs.{needs}
 use Rattle.sections.proofs.AddressLaws.{resolved-whole, resolved-short}

@@ -1,9 +1,9 @@
 -- Each turn passes a null, refuses as the model does, or adds one model to what was read.
-use Prim.Native.Nat.{_-_, _/_, _*_, _≤_, _<_}
-use mathlib.Core.Path.{_≡_, sym, ap, _∙_}
+use Prim.Native.Nat.{_-_, _/_}
+use mathlib.Core.Path.{sym, _∙_}
 use native.Mathlib.Omega.{arith}
 use borrow.Author.Needs.{needs}
-use lib.ListN.{length, getD}
+use lib.ListN.{length}
 use Rattle.sections.specs.Address.{sections}
 use Rattle.vertices.specs.Runs.{numbers}
 use Rattle.vertices.proofs.RunLaws.{numbers-length}

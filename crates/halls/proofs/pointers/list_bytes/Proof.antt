@@ -1,7 +1,4 @@
 -- No bytes by the two tests, else what resolves.
-use mathlib.Core.Path.{_≡_, _∙_}
-use mathlib.Core.List.{List, []}
-use mathlib.Core.Option.{Option, none, some, Option·getD}
 use native.Mathlib.Nat.{mul-le-mul}
 use native.Mathlib.Omega.{arith}
 use Prim.Native.Nat.{_*_, _≤_}

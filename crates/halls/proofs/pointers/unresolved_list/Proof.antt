@@ -1,5 +1,5 @@
 -- Each arm is what the law says of that answer.
-use mathlib.Core.Path.{_≡_, sym, ap, _∙_}
+use mathlib.Core.Path.{sym, ap, _∙_}
 use borrow.Author.Needs.{needs}
 use Rattle.halls.proofs.ListBytes.{unresolved, list-missing}
 use Rattle.halls.proofs.pointers.unresolved_list.Statement.{statement}

@@ -1,11 +1,10 @@
 -- The declaration is put right behind the head.
-use mathlib.Core.Path.{_≡_, refl, _∙_, ap}
-use mathlib.Core.List.{append-assoc}
+use mathlib.Core.Path.{refl}
 use native.Mathlib.Omega.{arith}
 use borrow.Author.Needs.{needs}
 use Rattle.sections.specs.Le.{bytes}
 use Rattle.vertices.specs.Declaration.{declarationBytes}
-use Rattle.vertices.proofs.DeclarationLaws.{edited-behind, declaration-length}
+use Rattle.vertices.proofs.DeclarationLaws.{edited-behind}
 use Rattle.halls.specs.List.{recordBytes, declarationRecord}
 use Rattle.halls.proofs.records.put_declaration.Statement.{statement}
 use Rattle.halls.proofs.records.put_declaration.Tie as tie

@@ -1,5 +1,4 @@
 -- The first of the two forms that is found, by the fields of the block.
-use mathlib.Core.Path.{_≡_, sym, ap, _∙_}
 use borrow.Author.Needs.{needs}
 use Rattle.halls.specs.Blocks.{indexBlock}
 use Rattle.halls.specs.View.{blockView}

@@ -1,5 +1,4 @@
 -- Each field by the block's, the buffer by the vertex layer.
-use mathlib.Core.Path.{_≡_, sym, ap, _∙_}
 use borrow.Author.Needs.{needs}
 use Rattle.halls.specs.Blocks.{geometryBlock}
 use Rattle.halls.specs.View.{geometryView, viewWith}

@@ -1,5 +1,4 @@
 -- Fewer than 0x60 bytes: absent. Else the view of the bytes that were found.
-use mathlib.Core.Path.{_≡_, sym, ap, _∙_}
 use native.Mathlib.Omega.{arith}
 use borrow.Author.Needs.{needs}
 use Rattle.sections.proofs.AddressLaws.{resolved-whole, resolved-short}

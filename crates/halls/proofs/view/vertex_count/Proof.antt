@@ -1,9 +1,7 @@
 -- The stored count unless it is 0, else the buffer's, at most 65,535.
-use mathlib.Core.Path.{_≡_, sym, ap, _∙_}
 use native.Mathlib.Omega.{arith}
 use borrow.Author.Needs.{needs}
 use borrow.Author.Tests.{eq-eqb, ne-eqb}
-use Prim.Native.Nat.{min}
 use Rattle.halls.specs.Reading.{vertexCountOf}
 use Rattle.halls.proofs.view.vertex_count.Statement.{statement}
 use Rattle.halls.proofs.view.vertex_count.Tie as tie

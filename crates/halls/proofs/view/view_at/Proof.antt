@@ -1,5 +1,4 @@
 -- Absent by the two tests, else what the lookup of all the bytes says; 2^32 indices of 2^8 bytes fit.
-use mathlib.Core.Path.{_≡_, sym, ap, _∙_}
 use native.Mathlib.Nat.{mul-le-mul}
 use native.Mathlib.Omega.{arith}
 use Prim.Native.Nat.{_*_, _≤_}

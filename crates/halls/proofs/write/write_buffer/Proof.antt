@@ -1,5 +1,5 @@
 -- The declaration's record where one is stored, and the vertices behind it, or nothing.
-use mathlib.Core.Path.{_≡_, sym, ap, subst, _∙_}
+use mathlib.Core.Path.{sym, ap, subst, _∙_}
 use Prim.Native.Nat.{_*_, _≤_}
 use native.Mathlib.Omega.{arith}
 use native.Mathlib.Nat.{mul-le-mul}
