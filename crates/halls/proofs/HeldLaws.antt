@@ -3,8 +3,9 @@ use mathlib.Core.Path.{_≡_, refl, sym, ap, _∙_}
 use mathlib.Core.Bool.{Bool, true, false, cond}
 use mathlib.Core.List.{List, [], _++_}
 use mathlib.Core.Logic.{_⊎_, ⊎-elim}
-use Prim.Native.Nat.{ℕ, _+_, _*_, _^_, _<_}
+use Prim.Native.Nat.{ℕ, suc, _+_, _*_, _^_, _<_}
 use native.Mathlib.Omega.{arith}
+use borrow.Author.Tests.{ne-eqb}
 use lib.Dec.{eqb}
 use lib.ListN.{length, getD}
 use lib.Seq.{take-all}
@@ -20,48 +21,40 @@ module _ (v : IndexView) (b : List ℕ) where
   unfolding indicesIn
   no-items w = rw w
 
-  pub two-items : v .width ≡ 2 → indicesIn v b .items ≡ numbers 2 (v .count) b
+  -- of a width that is not 0
+  module _ (w : ℕ) (e : v .width ≡ suc w) where
+    pub items-by : indicesIn v b .items ≡ numbers (suc w) (v .count) b
+    unfolding indicesIn
+    items-by = rw (e, ne-eqb (suc w) 0 (λ z. omega arith))
+
+    pub held-by : heldCount v ≡ v .count
+    held-by = rw (e, ne-eqb (suc w) 0 (λ z. omega arith))
+
+    pub long-by : HeldIn v b → length b ≡ v .count * suc w
+    long-by h = h .long ∙ ap (λ k. v .count * k) e
+
+  pub items-length : length (indicesIn v b .items) ≡ heldCount v
   unfolding indicesIn
-  two-items w = rw w
-
-  four-items : v .width ≡ 4 → indicesIn v b .items ≡ numbers 4 (v .count) b
-  unfolding indicesIn
-  four-items w = rw w
-
-  pub two-held : v .width ≡ 2 → heldCount v ≡ v .count
-  two-held w = rw w
-
-  pub four-held : v .width ≡ 4 → heldCount v ≡ v .count
-  four-held w = rw w
-
-  pub held-length : length (run 4 (indicesIn v b .items)) ≡ heldCount v * 4
-  unfolding indicesIn
-  held-length = length-run 4 _ ∙ ap (λ k. k * 4) (by-width (eqb (v .width) 0))
+  items-length = by-width (eqb (v .width) 0)
     where
       by-width : (t : Bool) → length (cond t [] (numbers (v .width) (v .count) b)) ≡ cond t 0 (v .count)
       by-width true = refl
       by-width false = numbers-length (v .width) (v .count) b
 
+  pub held-length : length (run 4 (indicesIn v b .items)) ≡ heldCount v * 4
+  held-length = length-run 4 (indicesIn v b .items) ∙ ap (λ k. k * 4) items-length
+
   module _ (h : HeldIn v b) where
-    long-by : (w : ℕ) → v .width ≡ w → length b ≡ v .count * w
-    long-by w e = h .long ∙ ap (λ k. v .count * k) e
-
-    pub two-long : v .width ≡ 2 → length b ≡ v .count * 2
-    two-long = long-by 2
-
-    pub four-long : v .width ≡ 4 → length b ≡ v .count * 4
-    four-long = long-by 4
-
     -- indices of four bytes are written as they are
     pub four-bytes : ((i : ℕ) → getD b i 0 < 256) → v .width ≡ 4 → b ≡ run 4 (indicesIn v b .items)
     four-bytes low w =
-        let n : length b ≡ v .count * 4 = four-long w in
-        sym (ap (run 4) (four-items w) ∙ run-numbers 4 (v .count) b low (omega arith) ∙ take-all (v .count * 4) b (omega arith))
+        let n : length b ≡ v .count * 4 = long-by 3 w h in
+        sym (ap (run 4) (items-by 3 w) ∙ run-numbers 4 (v .count) b low (omega arith) ∙ take-all (v .count * 4) b (omega arith))
 
     pub held-few : heldCount v < 2 ^ 29
     held-few =
         ⊎-elim (λ w. let z : heldCount v ≡ 0 = rw w in omega arith)
-        (⊎-elim (λ w. let n = two-long w in let q = two-held w in omega (arith, h .few)) (λ w. let n = four-long w in let q = four-held w in omega (arith, h .few)))
+        (⊎-elim (λ w. let n = long-by 1 w h in let q = held-by 1 w in omega (arith, h .few)) (λ w. let n = long-by 3 w h in let q = held-by 3 w in omega (arith, h .few)))
         (h .width)
 
     pub no-width : (v .width ≡ 2 → ⊥) → (v .width ≡ 4 → ⊥) → v .width ≡ 0

@@ -13,7 +13,7 @@ use Rattle.sections.proofs.LeLaws.{length-bytes}
 use Rattle.vertices.proofs.RunLaws.{length-run, numbers-length}
 use Rattle.halls.specs.List.{Geometry, Model, writeGeometries, modelRecord, writeModel}
 use Rattle.halls.specs.Blocks.{ModelBlock, modelBlock}
-use Rattle.halls.specs.Reading.{Reading, refused, read, andThen, orEmpty, listAt, mappingOf, rest, readGeometries, readModel}
+use Rattle.halls.specs.Reading.{Reading, refused, read, andThen, orEmpty, listAt, mappingOf, readGeometries, readModel}
 use Rattle.halls.specs.Measure.{missing, listBytes, modelAt, measuredGeometries, withRecord, measuredModel}
 use Rattle.halls.specs.View.{ListsOf}
 use Rattle.halls.specs.declared.measure.Measured.{Measured}
@@ -50,9 +50,9 @@ pub geometries-not-zero : (s : Sections) (before : ℕ) (map ps : List ℕ) → 
 unfolding readGeometries
 geometries-not-zero s before map [] = refl
 geometries-not-zero s before map (p ∷ ps) =
-    cond-not-zero (eqb p 0) _ _ (geometries-not-zero s before (rest map) ps)
+    cond-not-zero (eqb p 0) _ _ (geometries-not-zero s before _ ps)
     (cond-not-zero (ltb before 16384) _ _
-    (need-not-zero 6 (resolved s p 0x98) _ refl (λ b. then-not-zero (readGeometries s (suc before) (rest map) ps) _ (geometries-not-zero s (suc before) (rest map) ps) (λ gs. refl)))
+    (need-not-zero 6 (resolved s p 0x98) _ refl (λ b. then-not-zero _ _ (geometries-not-zero s (suc before) _ ps) (λ gs. refl)))
     refl)
 
 -- ---- the model behind a pointer

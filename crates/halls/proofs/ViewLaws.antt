@@ -1,7 +1,7 @@
 -- The view of a geometry: its length is that of the geometry's records.
 use mathlib.Core.Path.{_≡_, refl, ap, _∙_}
 use mathlib.Core.Bool.{Bool, true, false, cond}
-use mathlib.Core.List.{List, [], _++_, append-assoc}
+use mathlib.Core.List.{List, _++_, append-assoc}
 use mathlib.Core.Logic.{_⊎_, ⊎-elim}
 use mathlib.Core.Option.{Option, none, some, Option·map, Option·getD}
 use Prim.Native.Nat.{ℕ, _+_, _*_, _≤_}
@@ -20,7 +20,7 @@ use Rattle.vertices.specs.Buffer.{foundBuffer, layoutNumber, vertexBufferAt, or
 use Rattle.vertices.specs.Runs.{numbers}
 use Rattle.vertices.proofs.BufferLaws.{FoundData, buffer-data}
 use Rattle.vertices.proofs.DeclarationLaws.{declaration-length}
-use Rattle.vertices.proofs.RunLaws.{length-run, numbers-length}
+use Rattle.vertices.proofs.RunLaws.{length-run}
 use Rattle.vertices.specs.declared.declaration.VertexDeclaration.{VertexDeclaration}
 use Rattle.vertices.specs.declared.buffer.VertexBuffer.{VertexBuffer}
 use Rattle.vertices.specs.declared.buffer.FoundBuffer.{FoundBuffer}
@@ -31,6 +31,7 @@ use Rattle.halls.specs.List.{Vertices, Indices, Geometry, recordBytes, o
 use Rattle.halls.specs.Blocks.{GeometryBlock, IndexBlock, indexBlock}
 use Rattle.halls.specs.Reading.{orEmpty, declarationOf, storedIn, verticesOf, indicesAt, sizedIndices, indicesOf, geometryWith, geometryOf}
 use Rattle.halls.specs.View.{seenAt, viewAt, sizedView, orView, blockView, indexViewIn, indicesIn, indicesSeen, bufferIn, viewWith, geometryView, declarationLength, bufferLength, indicesLength, viewLength, storedRecord, bufferRecords, indexRecord, viewRecords, numbersSeen, BufferHeld}
+use Rattle.halls.proofs.HeldLaws.{items-length}
 use Rattle.halls.specs.declared.view.IndexView.{IndexView}
 use Rattle.halls.specs.declared.view.FoundIndices.{FoundIndices}
 use Rattle.halls.specs.declared.view.GeometryView.{GeometryView}
@@ -142,16 +143,11 @@ block-view-is s b =
     rw (view-at-is s 2 (b .count) refl (b .legacy), sized-is s (b .size) (b .count) (b .sized))
     (first-seen s (viewAt s 2 (b .count) (b .legacy)) (sizedView s (b .size) (b .count) (b .sized)) (record { count = b .count; width = 0; place = Nothing }))
 
-items-length : (t : Bool) (width count : ℕ) (b : List ℕ) → length (cond t [] (numbers width count b)) ≡ cond t 0 count
-items-length true width count b = refl
-items-length false width count b = numbers-length width count b
-
 index-part : (s : Sections) (o : Option (List ℕ)) → length (optional indicesRecord (Option·map (λ raw. indicesOf s (indexBlock raw)) o)) ≡ indicesLength (indexViewIn s o)
-unfolding indicesIn
 index-part s none = refl
 index-part s (some raw) =
     let v : IndexView = blockView s (indexBlock raw) in
-    rw (block-view-is s (indexBlock raw), indices-record-length, items-length (eqb (v .width) 0) (v .width) (v .count) _)
+    rw (block-view-is s (indexBlock raw), indices-record-length, items-length v _)
 
 -- ---- a geometry
 
@@ -172,9 +168,8 @@ buffer-records-length s (Buffer b) h =
     ∙ (let p = declaration-part (b .declaration) in let q = vertices-record-length (verticesOf s b) in omega (arith, h .0))
 
 index-record-length : (s : Sections) (f : FoundIndices) → length (indexRecord s f) ≡ indicesLength f
-unfolding indicesIn
 index-record-length s Unseen = refl
-index-record-length s (Seen v) = rw (indices-record-length, items-length (eqb (v .width) 0) (v .width) (v .count) _)
+index-record-length s (Seen v) = rw (indices-record-length, items-length v _)
 
 pub view-written : (s : Sections) (v : GeometryView) (out : List ℕ) (at : ℕ) {next : ℕ} {one two t : List ℕ} → BufferHeld s (v .buffer) → one ≡ overwrite out at (geometryRecord (numbersSeen v))
     → two ≡ overwrite one (at + 20) (bufferRecords s (v .buffer)) → next ≡ at + 20 + bufferLength (v .buffer) → t ≡ overwrite two next (indexRecord s (v .indices))

@@ -6,7 +6,7 @@ use lib.ListN.{length}
 use Rattle.sections.specs.Edit.{overwrite}
 use Rattle.sections.proofs.EditLaws.{edited-fits, overwrite-none}
 use Rattle.vertices.specs.Runs.{run}
-use Rattle.halls.proofs.HeldLaws.{no-items, two-items, two-held, four-held, two-long, four-long, four-bytes, no-width}
+use Rattle.halls.proofs.HeldLaws.{no-items, items-by, held-by, long-by, four-bytes, no-width}
 use Rattle.halls.proofs.records.put_items.Statement.{statement}
 use Rattle.halls.proofs.records.put_items.Tie as tie
 
@@ -14,15 +14,15 @@ requires : tie.Need-put-widened-requires
 requires c κs =
     let start = c .before .before .before .before .before .before in
     let w = c .before .before .if1 .taken in
-    let long = two-long (start .args .view) (start .args .raw .now) (start .pre .0) w in
-    let held = two-held (start .args .view) (start .args .raw .now) w in
+    let long = long-by (start .args .view) (start .args .raw .now) 1 w (start .pre .0) in
+    let held = held-by (start .args .view) (start .args .raw .now) 1 w in
     (omega arith, omega (arith, start .pre .1))
 
 two : tie.Need-returns
 two c =
     let tested = c .before .before .before .before .before in
     let start = tested .before .before .before .before in
-    c .before .before .put-widened .ensures ∙ rw (two-items (start .args .view) (start .args .raw .now) (tested .if1 .taken))
+    c .before .before .put-widened .ensures ∙ rw (items-by (start .args .view) (start .args .raw .now) 1 (tested .if1 .taken))
 
 four : tie.Need-returns-2
 four c =
@@ -30,8 +30,8 @@ four c =
     let tested = copy .before .before in
     let start = tested .before .before .before .before .before .before in
     let w = tested .if2 .taken in
-    let long = four-long (start .args .view) (start .args .raw .now) (start .pre .0) w in
-    let held = four-held (start .args .view) (start .args .raw .now) w in
+    let long = long-by (start .args .view) (start .args .raw .now) 3 w (start .pre .0) in
+    let held = held-by (start .args .view) (start .args .raw .now) 3 w in
     let same = four-bytes (start .args .view) (start .args .raw .now) (start .pre .0) (λ i. tested .before .before .before .before .shared-slice-known .given i .fits) w in
     edited-fits (length (start .args .raw .now)) (copy .copy-into .ensures) (omega (arith, start .pre .1)) ∙ ap (overwrite (start .args .out .now) (start .args .at)) same
 
