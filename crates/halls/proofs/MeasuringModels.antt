@@ -17,7 +17,7 @@ use Rattle.halls.specs.Measure.{modelAt, measuredModel, measuredModels, 
 use Rattle.halls.specs.declared.measure.Measured.{Measured}
 use Rattle.halls.proofs.EachLaws.{each-snoc}
 use Rattle.halls.proofs.ModelLaws.{geometries-not-zero}
-use Rattle.halls.proofs.ReadingLaws.{zeroRefusal, need-then, cond-not-zero, need-not-zero, then-not-zero, prepend, prepend-none, prepend-one, prepend-then, read-as, refused-as}
+use Rattle.halls.proofs.ReadingLaws.{NotZero, read-not-zero, need-then, cond-not-zero, need-not-zero, then-not-zero, prepend, prepend-none, prepend-one, prepend-then, read-as, refused-as}
 
 -- ---- lists of models
 
@@ -26,23 +26,22 @@ geometries-snoc [] m = omega arith
 geometries-snoc (h ∷ ms) m = rw (geometries-snoc ms m) (omega arith)
 
 -- no refusal has the number 0
-block-not-zero : (s : Sections) (before : ℕ) (b : ModelBlock) → zeroRefusal (readModel s before b) ≡ false
+block-not-zero : (s : Sections) (before : ℕ) (b : ModelBlock) → NotZero (readModel s before b)
 unfolding readModel
 block-not-zero s before b =
-    need-not-zero 4 (listAt s 8 (b .count) (b .geometries)) _ refl (λ ps.
-    then-not-zero (readGeometries s before (mappingOf s b) ps) _ (geometries-not-zero s before (mappingOf s b) ps) (λ gs. refl))
+    need-not-zero 4 (listAt s 8 (b .count) (b .geometries)) refl (λ ps. then-not-zero (geometries-not-zero s before (mappingOf s b) ps) (λ gs. read-not-zero))
 
-model-not-zero : (s : Sections) (before pointer : ℕ) → zeroRefusal (modelAt s before pointer) ≡ false
+model-not-zero : (s : Sections) (before pointer : ℕ) → NotZero (modelAt s before pointer)
 unfolding modelAt
-model-not-zero s before pointer = need-not-zero 3 (resolved s pointer 0x30) _ refl (λ b. block-not-zero s before (modelBlock b))
+model-not-zero s before pointer = need-not-zero 3 (resolved s pointer 0x30) refl (λ b. block-not-zero s before (modelBlock b))
 
-pub models-not-zero : (s : Sections) (before : ℕ) (ps : List ℕ) → zeroRefusal (readModels s before ps) ≡ false
+pub models-not-zero : (s : Sections) (before : ℕ) (ps : List ℕ) → NotZero (readModels s before ps)
 unfolding readModels
-models-not-zero s before [] = refl
+models-not-zero s before [] = read-not-zero
 models-not-zero s before (p ∷ ps) =
-    cond-not-zero (eqb p 0) _ _ (models-not-zero s before ps)
-    (need-not-zero 3 (resolved s p 0x30) _ refl (λ b. then-not-zero (readModel s before (modelBlock b)) _ (block-not-zero s before (modelBlock b)) (λ m.
-    then-not-zero (readModels s (before + length (m .geometries)) ps) _ (models-not-zero s (before + length (m .geometries)) ps) (λ ms. refl))))
+    cond-not-zero (eqb p 0) (models-not-zero s before ps)
+    (need-not-zero 3 (resolved s p 0x30) refl (λ b. then-not-zero (block-not-zero s before (modelBlock b)) (λ m.
+    then-not-zero (models-not-zero s (before + length (m .geometries)) ps) (λ ms. read-not-zero))))
 
 pub record MeasuringModels (s : Sections) (ps : List ℕ) (i total count : ℕ) : Type 0 where
   pub done : List Model

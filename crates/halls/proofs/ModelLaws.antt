@@ -18,7 +18,7 @@ use Rattle.halls.specs.Measure.{missing, listBytes, modelAt, measuredGeo
 use Rattle.halls.specs.View.{ListsOf}
 use Rattle.halls.specs.declared.measure.Measured.{Measured}
 use Rattle.halls.proofs.ListBytes.{wholeNumbers, list-absent, list-found, list-or-empty, list-short, even-whole}
-use Rattle.halls.proofs.ReadingLaws.{zeroRefusal, cond-not-zero, need-not-zero, then-not-zero}
+use Rattle.halls.proofs.ReadingLaws.{NotZero, refused-not-zero, read-not-zero, cond-not-zero, need-not-zero, then-not-zero}
 use Rattle.halls.proofs.ViewLaws.{record-length}
 
 -- the lists of a block, from the fields that were read
@@ -46,14 +46,14 @@ module _ (s : Sections) (b : ModelBlock) (pointers mapping : List ℕ) (l : List
   pointers-few = rw (l .pointers-are) (list-short s 8 (b .count) (b .geometries) (l .few) (omega arith))
 
 -- no refusal has the number 0
-pub geometries-not-zero : (s : Sections) (before : ℕ) (map ps : List ℕ) → zeroRefusal (readGeometries s before map ps) ≡ false
+pub geometries-not-zero : (s : Sections) (before : ℕ) (map ps : List ℕ) → NotZero (readGeometries s before map ps)
 unfolding readGeometries
-geometries-not-zero s before map [] = refl
+geometries-not-zero s before map [] = read-not-zero
 geometries-not-zero s before map (p ∷ ps) =
-    cond-not-zero (eqb p 0) _ _ (geometries-not-zero s before _ ps)
-    (cond-not-zero (ltb before 16384) _ _
-    (need-not-zero 6 (resolved s p 0x98) _ refl (λ b. then-not-zero _ _ (geometries-not-zero s (suc before) _ ps) (λ gs. refl)))
-    refl)
+    cond-not-zero (eqb p 0) (geometries-not-zero s before _ ps)
+    (cond-not-zero (ltb before 16384)
+    (need-not-zero 6 (resolved s p 0x98) refl (λ b. then-not-zero (geometries-not-zero s (suc before) _ ps) (λ gs. read-not-zero)))
+    (refused-not-zero 5 refl))
 
 -- ---- the model behind a pointer
 
@@ -91,8 +91,8 @@ module _ (s : Sections) (before pointer : ℕ) where
       unfolding writeModel modelRecord
       length-with gs = simp (length-append, record-length, length-bytes, length-run, numbers-length) (omega (arith, mapping-even s (modelBlock raw) pointers mapping l))
 
-      by-cases : (r : Reading (List Geometry)) → zeroRefusal r ≡ false → withRecord (length mapping) (measuredGeometries r) ≡ measuredModel (andThen r (λ gs. read (modelWith gs)))
-      by-cases (refused check) z = rw z
+      by-cases : (r : Reading (List Geometry)) → NotZero r → withRecord (length mapping) (measuredGeometries r) ≡ measuredModel (andThen r (λ gs. read (modelWith gs)))
+      by-cases (refused check) z = rw (z .is)
       by-cases (read gs) z = ap (λ (k : ℕ). record { refusal = 0; «length» = k; count = length gs }) (sym (length-with gs))
 
       -- its measure, from that of its geometries

@@ -67,21 +67,30 @@ prepend-then done (read x) f = refl
 
 -- ---- no refusal has the number 0
 
-abbrev pub zeroRefusal : {A : Type 0} → Reading A → Bool
+abbrev zeroRefusal : {A : Type 0} → Reading A → Bool
 zeroRefusal (refused check) = eqb check 0
 zeroRefusal (read x) = false
 
-pub cond-not-zero : {A : Type 0} (t : Bool) (x y : Reading A) → zeroRefusal x ≡ false → zeroRefusal y ≡ false → zeroRefusal (cond t x y) ≡ false
-cond-not-zero true x y e f = e
-cond-not-zero false x y e f = f
+pub record NotZero {A : Type 0} (r : Reading A) : Type 0 where
+  pub is : zeroRefusal r ≡ false
 
-pub need-not-zero : {A : Type 0} (check : ℕ) (o : Option (List ℕ)) (f : List ℕ → Reading A) → eqb check 0 ≡ false → ((b : List ℕ) → zeroRefusal (f b) ≡ false) → zeroRefusal (need check o f) ≡ false
-need-not-zero check none f e g = e
-need-not-zero check (some b) f e g = g b
+pub refused-not-zero : {A : Type 0} (check : ℕ) → eqb check 0 ≡ false → NotZero {A = A} (refused check)
+refused-not-zero check e = record { is = e }
 
-pub then-not-zero : {A B : Type 0} (r : Reading A) (f : A → Reading B) → zeroRefusal r ≡ false → ((x : A) → zeroRefusal (f x) ≡ false) → zeroRefusal (andThen r f) ≡ false
-then-not-zero (refused check) f e g = e
-then-not-zero (read x) f e g = g x
+pub read-not-zero : {A : Type 0} {x : A} → NotZero (read x)
+read-not-zero = record { is = refl }
+
+pub cond-not-zero : {A : Type 0} (t : Bool) {x y : Reading A} → NotZero x → NotZero y → NotZero (cond t x y)
+cond-not-zero true e f = e
+cond-not-zero false e f = f
+
+pub need-not-zero : {A : Type 0} (check : ℕ) (o : Option (List ℕ)) {f : List ℕ → Reading A} → eqb check 0 ≡ false → ((b : List ℕ) → NotZero (f b)) → NotZero (need check o f)
+need-not-zero check none e g = refused-not-zero check e
+need-not-zero check (some b) e g = g b
+
+pub then-not-zero : {A B : Type 0} {r : Reading A} {f : A → Reading B} → NotZero r → ((x : A) → NotZero (f x)) → NotZero (andThen r f)
+then-not-zero {r = refused check} e g = refused-not-zero check (e .is)
+then-not-zero {r = read x} e g = g x
 
 -- ---- so a measure tells whether something was read
 
@@ -92,8 +101,8 @@ pub record ReadAs {A : Type 0} (bytesOf countOf : A → ℕ) (r : Reading A) (v 
   pub many : v .count ≡ countOf value
 
 module _ {A : Type 0} (bytesOf countOf : A → ℕ) where
-  pub read-as : (r : Reading A) (v : Measured) → v ≡ measured bytesOf countOf r → zeroRefusal r ≡ false → v .refusal ≡ 0 → ReadAs bytesOf countOf r v
-  read-as (refused check) v e z h = absurd (eqb-false check 0 z (sym (ap (λ (x : Measured). x .refusal) e) ∙ h))
+  pub read-as : (r : Reading A) (v : Measured) → v ≡ measured bytesOf countOf r → NotZero r → v .refusal ≡ 0 → ReadAs bytesOf countOf r v
+  read-as (refused check) v e z h = absurd (eqb-false check 0 (z .is) (sym (ap (λ (x : Measured). x .refusal) e) ∙ h))
   read-as (read x) v e z h = record { value = x; is = refl; long = ap (λ (m : Measured). m .«length») e; many = ap (λ (m : Measured). m .count) e }
 
   -- a refusal is passed on
