@@ -18,7 +18,7 @@ use sections::u64_le;
 pub struct Measured {
     pub refusal: u8,
     pub length: u64,
-    pub count: u32,
+    pub count: usize,
 }
 
 // The geometries behind some pointers, of which `before` came earlier in the walk.
@@ -27,7 +27,7 @@ pub fn measure_geometries<'a>(
     graphics: &'a [u8],
     pointers: &[u8],
     mapping: &[u8],
-    before: u32,
+    before: usize,
 ) -> Measured
     requires { ⌜ (before ≤ 16384) × (length (now pointers) < 2 ^ 32) ⌝ }
     ensures { λ r. ⌜ (r ≡ measuredGeometries (readGeometries (sections (now (system .entry)) (now (graphics .entry))) before (numbers 2 (length (now (mapping .entry)) / 2) (now (mapping .entry))) (numbers 8 (length (now (pointers .entry)) / 8) (now (pointers .entry))))) × (r .«length» ≤ r .count * 2 ^ 49) × (before + r .count ≤ 16384) ⌝ }
@@ -35,7 +35,7 @@ pub fn measure_geometries<'a>(
     let n = pointers.len() / 8;
     let mut i = 0;
     let mut total: u64 = 0;
-    let mut count: u32 = 0;
+    let mut count: usize = 0;
     while i < n {
         let pointer = u64_le(pointers, i * 8);
         if pointer == 0 {
@@ -68,7 +68,7 @@ pub fn measure_models<'a>(system: &'a [u8], graphics: &'a [u8], pointers: &[u8])
     let n = pointers.len() / 8;
     let mut i = 0;
     let mut total: u64 = 0;
-    let mut count: u32 = 0;
+    let mut count: usize = 0;
     while i < n {
         let pointer = u64_le(pointers, i * 8);
         if pointer == 0 {
@@ -95,7 +95,7 @@ pub fn measure_model<'a>(
     system: &'a [u8],
     graphics: &'a [u8],
     pointer: u64,
-    before: u32,
+    before: usize,
 ) -> Measured
     requires { ⌜ before ≤ 16384 ⌝ }
     ensures { λ r. ⌜ (r ≡ measuredModel (modelAt (sections (now (system .entry)) (now (graphics .entry))) before pointer)) × (r .«length» ≤ r .count * 2 ^ 49 + 2 ^ 20) × (before + r .count ≤ 16384) ⌝ }
