@@ -3,8 +3,8 @@ use mathlib.Core.Path.{sym}
 use borrow.Author.Needs.{needs}
 use native.Mathlib.Omega.{arith}
 use lib.Seq.{length-take-le}
-use Rattle.layouts_test.proofs.buffers.read_first.Statement.{statement}
-use Rattle.layouts_test.proofs.buffers.read_first.Tie as tie
+use Rattle.testing.proofs.buffers.read_first.Statement.{statement}
+use Rattle.testing.proofs.buffers.read_first.Tie as tie
 
 pub read-first-spec : {M : Type 1} → statement M
 read-first-spec =

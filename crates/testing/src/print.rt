@@ -22,10 +22,10 @@ pub fn done(answer: bool) {
 }
 
 // A space and the bytes, two digits each.
-pub fn bytes(b: &[u8; 64]) {
+pub fn bytes(b: &[u8]) {
     text(b" ");
-    let mut i: usize = 0;
-    while i < 64 {
+    let mut i = 0;
+    while i < b.len() {
         io::print_hex(STDOUT_FILENO, wide(b[i]), 2);
         i += 1;
     }

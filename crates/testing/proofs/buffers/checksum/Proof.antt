@@ -2,8 +2,8 @@
 use Prim.Native.Nat.{_<_, _-_}
 use native.Mathlib.Omega.{arith}
 use lib.ListN.{length}
-use Rattle.layouts_test.proofs.buffers.checksum.Statement.{statement}
-use Rattle.layouts_test.proofs.buffers.checksum.Tie as tie
+use Rattle.testing.proofs.buffers.checksum.Statement.{statement}
+use Rattle.testing.proofs.buffers.checksum.Tie as tie
 
 abbrev Inv-loop : tie.InvT-loop
 Inv-loop b sum₀ i₀ sum i = sum < 36028797018963913

@@ -3,8 +3,8 @@ use Prim.Native.Nat.{_-_}
 use borrow.Author.Needs.{needs}
 use native.Mathlib.Omega.{arith}
 use lib.ListN.{length}
-use Rattle.layouts_test.proofs.print.bytes.Statement.{statement}
-use Rattle.layouts_test.proofs.print.bytes.Tie as tie
+use Rattle.testing.proofs.print.bytes.Statement.{statement}
+use Rattle.testing.proofs.print.bytes.Tie as tie
 
 abbrev Inv-loop : tie.InvT-loop
 Inv-loop b i₀ i = Unit {0}

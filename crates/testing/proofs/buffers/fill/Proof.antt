@@ -3,8 +3,8 @@ use Prim.Native.Nat.{_-_}
 use mathlib.Core.Path.{_≡_, refl}
 use native.Mathlib.Omega.{arith}
 use lib.ListN.{length, length-set}
-use Rattle.sections_test.proofs.buffers.fill.Statement.{statement}
-use Rattle.sections_test.proofs.buffers.fill.Tie as tie
+use Rattle.testing.proofs.buffers.fill.Statement.{statement}
+use Rattle.testing.proofs.buffers.fill.Tie as tie
 
 abbrev Inv-loop : tie.InvT-loop
 Inv-loop b₀ seed i₀ b i = length b ≡ length b₀
