@@ -1,4 +1,7 @@
 pub mod ViewLaws
+pub mod EachLaws
+pub mod PointerLists
+pub mod ReadingLaws
 pub mod Measuring
 pub mod ListBytes
 pub mod ModelLaws
@@ -6,6 +9,9 @@ pub mod MeasuringModels
 pub mod Widening
 pub mod HeldLaws
 pub mod ViewRecords
-pub mod WritingGeometries
+pub mod WritingItems
+pub mod Walks
 pub mod SecondPass
 pub mod WritingModel
+pub mod ReaderParts
+pub mod ListingLaws

@@ -1,74 +1,24 @@
 -- The loop over a model's geometry pointers: what was read so far, and what is left to read.
 use mathlib.Core.Path.{_≡_, refl, sym, ap, _∙_}
 use mathlib.Core.Bool.{true, false}
-use mathlib.Core.Logic.{_⊎_, inl, inr, ⊎-elim}
 use mathlib.Core.List.{List, [], _∷_, _++_, append-assoc, append-nil}
 use mathlib.Core.Option.{Option, none, some}
-use Prim.Native.Nat.{ℕ, zero, suc, _+_, _-_, _*_, _^_, _≤_, _<_}
-use native.Mathlib.Nat.{add-zero, eq-zero-or-pos, suc-mul, mul-le-mul-right, le-trans}
+use Prim.Native.Nat.{ℕ, suc, _+_, _*_, _^_, _≤_, _<_}
+use native.Mathlib.Nat.{add-zero}
 use native.Mathlib.Numerals.{add-one}
 use native.Mathlib.Omega.{arith}
 use borrow.Author.Tests.{eq-eqb, ne-eqb, lt-ltb, le-ltb}
-use lib.ListN.{length, drop, getD, length-append, drop-of-length-le, List·getD-eq-default}
+use lib.ListN.{length, drop, getD, length-append, drop-of-length-le}
 use lib.Seq.{drop-cons}
 use Rattle.sections.specs.Address.{Sections, resolved}
-use Rattle.sections.specs.Le.{field}
-use Rattle.sections.proofs.LeLaws.{field-in, field-out}
-use Rattle.vertices.specs.Runs.{numbers}
-use Rattle.vertices.proofs.RunLaws.{numbers-getD, numbers-length}
-use Rattle.halls.specs.List.{Geometry, writeGeometry, writeGeometries}
+use Rattle.halls.specs.List.{Geometry, each, writeGeometry, writeGeometries}
 use Rattle.halls.specs.Blocks.{geometryBlock}
-use Rattle.halls.specs.Reading.{Reading, refused, read, need, andThen, first, rest, geometryOf, readGeometries}
-use Rattle.halls.specs.Measure.{lengthIn, lengthAt, measuredGeometries}
+use Rattle.halls.specs.Reading.{Reading, refused, read, andThen, geometryOf, readGeometries}
+use Rattle.halls.specs.Measure.{lengthIn, lengthAt}
+use Rattle.halls.proofs.EachLaws.{each-snoc}
+use Rattle.halls.proofs.PointerLists.{first-drop, rest-drop}
+use Rattle.halls.proofs.ReadingLaws.{prepend, prepend-none, prepend-one}
 use Rattle.halls.proofs.ViewLaws.{geometry-record-length}
-
--- ---- lists
-
-below-or : (i n : ℕ) → (i < n) ⊎ (n ≤ i)
-below-or i n = ⊎-elim (λ e. inl (omega arith)) (λ h. inr (omega arith)) (eq-zero-or-pos (i + 1 - n))
-
-in-run : (i n k : ℕ) → i < n → i * k + k ≤ n * k
-in-run i n k h = rw suc-mul at (mul-le-mul-right k h)
-
-pub first-drop : (i : ℕ) (xs : List ℕ) → first (drop i xs) ≡ getD xs i 0
-first-drop zero [] = refl
-first-drop zero (x ∷ xs) = refl
-first-drop (suc i) [] = refl
-first-drop (suc i) (x ∷ xs) = first-drop i xs
-
-pub rest-drop : (i : ℕ) (xs : List ℕ) → rest (drop i xs) ≡ drop (suc i) xs
-rest-drop zero [] = refl
-rest-drop zero (x ∷ xs) = refl
-rest-drop (suc i) [] = refl
-rest-drop (suc i) (x ∷ xs) = rest-drop i xs
-
-pub write-snoc : (gs : List Geometry) (g : Geometry) → writeGeometries (gs ++ (g ∷ [])) ≡ writeGeometries gs ++ writeGeometry g
-unfolding writeGeometries
-write-snoc [] g = append-nil (writeGeometry g)
-write-snoc (h ∷ gs) g = rw (write-snoc gs g, append-assoc)
-
--- the i-th of the whole numbers of k bytes in s, 0 behind the last
-pub number-field : (k n : ℕ) (s : List ℕ) (i : ℕ) → n * k ≤ length s → length s < n * k + k → getD (numbers k n s) i 0 ≡ field k s (i * k)
-number-field k n s i h l = ⊎-elim
-    (λ (q : i < n). numbers-getD k n i s q ∙ sym (field-in k s (i * k) (le-trans (in-run i n k q) h)))
-    (λ (q : n ≤ i). List·getD-eq-default (numbers k n s) 0 {n = i} (rw numbers-length q) ∙ sym (field-out k s (i * k) (omega (arith, mul-le-mul-right k q))))
-    (below-or i n)
-
--- ---- readings
-
--- what was read before a reading
-pub prepend : List Geometry → Reading (List Geometry) → Reading (List Geometry)
-prepend done r = andThen r (λ gs. read (done ++ gs))
-
-prepend-none : (r : Reading (List Geometry)) → r ≡ prepend [] r
-unfolding prepend
-prepend-none (refused check) = refl
-prepend-none (read gs) = refl
-
-prepend-one : (done : List Geometry) (g : Geometry) (r : Reading (List Geometry)) → prepend done (andThen r (λ gs. read (g ∷ gs))) ≡ prepend (done ++ (g ∷ [])) r
-unfolding prepend
-prepend-one done g (refused check) = refl
-prepend-one done g (read gs) = ap read (sym (append-assoc done (g ∷ []) gs))
 
 pub record Measuring (s : Sections) (before : ℕ) (map ps : List ℕ) (i total count : ℕ) : Type 0 where
   pub done : List Geometry
@@ -80,7 +30,7 @@ pub record Measuring (s : Sections) (before : ℕ) (map ps : List ℕ) (i total 
   pub whole : readGeometries s before map ps ≡ prepend done (readGeometries s (before + count) (drop i map) (drop i ps))
 
 pub measuring-start : (s : Sections) (before : ℕ) (map ps : List ℕ) → before ≤ 16384 → Measuring s before map ps 0 0 0
-unfolding writeGeometries
+unfolding each
 measuring-start s before map ps h =
     record { done = []; low = omega arith; total-is = refl; count-is = refl; bound = omega arith; few = omega arith; whole = rw add-zero (prepend-none (readGeometries s before map ps)) }
 
@@ -130,7 +80,7 @@ module _ {s : Sections} {before : ℕ} {map ps : List ℕ} {i total count : ℕ}
             record {
               done = m .done ++ (g ∷ []);
               low = omega arith;
-              total-is = rw (write-snoc (m .done) g, length-append, ← en) (omega (arith, m .total-is));
+              total-is = rw (each-snoc writeGeometry (m .done) g, length-append, ← en) (omega (arith, m .total-is));
               count-is = rw length-append (omega (arith, m .count-is));
               bound = omega (arith, m .bound);
               few = omega arith;

@@ -12,66 +12,39 @@ use lib.Dec.{eqb}
 use lib.ListN.{length, drop, getD, length-append, drop-of-length-le}
 use lib.Seq.{drop-cons}
 use Rattle.sections.specs.Address.{Sections, resolved}
-use Rattle.halls.specs.List.{Geometry, Model, writeModel, write}
-use Rattle.halls.specs.Blocks.{modelBlock}
+use Rattle.halls.specs.List.{Model, each, writeModel, write}
+use Rattle.halls.specs.Blocks.{ModelBlock, modelBlock}
 use Rattle.halls.specs.Reading.{Reading, refused, read, need, andThen, listAt, mappingOf, readGeometries, readModel, readModels}
 use Rattle.halls.specs.Measure.{modelAt, measuredModel, measuredModels, geometriesIn}
 use Rattle.halls.specs.declared.measure.Measured.{Measured}
-use Rattle.halls.proofs.ModelLaws.{zeroRefusal, need-not-zero, then-not-zero, geometries-not-zero}
+use Rattle.halls.proofs.EachLaws.{each-snoc}
+use Rattle.halls.proofs.ModelLaws.{geometries-not-zero}
+use Rattle.halls.proofs.ReadingLaws.{zeroRefusal, need-then, cond-not-zero, need-not-zero, then-not-zero, prepend, prepend-none, prepend-one, prepend-then, read-as, refused-as}
 
 -- ---- lists of models
-
-pub write-snoc : (ms : List Model) (m : Model) → write (ms ++ (m ∷ [])) ≡ write ms ++ writeModel m
-unfolding write
-write-snoc [] m = append-nil (writeModel m)
-write-snoc (h ∷ ms) m = rw (write-snoc ms m, append-assoc)
 
 geometries-snoc : (ms : List Model) (m : Model) → geometriesIn (ms ++ (m ∷ [])) ≡ geometriesIn ms + length (m .geometries)
 geometries-snoc [] m = omega arith
 geometries-snoc (h ∷ ms) m = rw (geometries-snoc ms m) (omega arith)
 
--- ---- readings
+-- no refusal has the number 0
+block-not-zero : (s : Sections) (before : ℕ) (b : ModelBlock) → zeroRefusal (readModel s before b) ≡ false
+unfolding readModel
+block-not-zero s before b =
+    need-not-zero 4 (listAt s 8 (b .count) (b .geometries)) _ refl (λ ps.
+    then-not-zero (readGeometries s before (mappingOf s b) ps) _ (geometries-not-zero s before (mappingOf s b) ps) (λ gs. refl))
 
-need-then : {A B : Type 0} (check : ℕ) (o : Option (List ℕ)) (f : List ℕ → Reading A) (g : A → Reading B) → need check o (λ b. andThen (f b) g) ≡ andThen (need check o f) g
-need-then check none f g = refl
-need-then check (some b) f g = refl
-
-pub prepend : List Model → Reading (List Model) → Reading (List Model)
-prepend done r = andThen r (λ ms. read (done ++ ms))
-
-prepend-none : (r : Reading (List Model)) → r ≡ prepend [] r
-unfolding prepend
-prepend-none (refused check) = refl
-prepend-none (read ms) = refl
-
-prepend-one : (done : List Model) (m : Model) (r : Reading (List Model)) → prepend done (andThen r (λ ms. read (m ∷ ms))) ≡ prepend (done ++ (m ∷ [])) r
-unfolding prepend
-prepend-one done m (refused check) = refl
-prepend-one done m (read ms) = ap read (sym (append-assoc done (m ∷ []) ms))
-
--- a model's refusal is no 0
 model-not-zero : (s : Sections) (before pointer : ℕ) → zeroRefusal (modelAt s before pointer) ≡ false
-unfolding modelAt readModel
-model-not-zero s before pointer =
-    need-not-zero 3 (resolved s pointer 0x30) _ refl (λ b.
-    need-not-zero 4 (listAt s 8 (modelBlock b .count) (modelBlock b .geometries)) _ refl (λ ps.
-    then-not-zero (readGeometries s before (mappingOf s (modelBlock b)) ps) _ (geometries-not-zero s before (mappingOf s (modelBlock b)) ps)))
+unfolding modelAt
+model-not-zero s before pointer = need-not-zero 3 (resolved s pointer 0x30) _ refl (λ b. block-not-zero s before (modelBlock b))
 
--- a measure tells whether the model was read
-pub record ReadAs (r : Reading Model) (v : Measured) : Type 0 where
-  pub model : Model
-  pub is : r ≡ read model
-  pub long : v .«length» ≡ length (writeModel model)
-  pub many : v .count ≡ length (model .geometries)
-
-read-as : (r : Reading Model) (v : Measured) → v ≡ measuredModel r → zeroRefusal r ≡ false → v .refusal ≡ 0 → ReadAs r v
-read-as (refused check) v e z h = absurd (eqb-false check 0 z (sym (ap (λ (x : Measured). x .refusal) e) ∙ h))
-read-as (read m) v e z h = record { model = m; is = refl; long = ap (λ (x : Measured). x .«length») e; many = ap (λ (x : Measured). x .count) e }
-
-refused-as : (r : Reading Model) (v : Measured) (done : List Model) (g : Model → Reading (List Model)) → v ≡ measuredModel r → (v .refusal ≡ 0 → ⊥) → v ≡ measuredModels (prepend done (andThen r g))
-unfolding prepend
-refused-as (refused check) v done g e h = e
-refused-as (read m) v done g e h = absurd (h (ap (λ (x : Measured). x .refusal) e))
+pub models-not-zero : (s : Sections) (before : ℕ) (ps : List ℕ) → zeroRefusal (readModels s before ps) ≡ false
+unfolding readModels
+models-not-zero s before [] = refl
+models-not-zero s before (p ∷ ps) =
+    cond-not-zero (eqb p 0) _ _ (models-not-zero s before ps)
+    (need-not-zero 3 (resolved s p 0x30) _ refl (λ b. then-not-zero (readModel s before (modelBlock b)) _ (block-not-zero s before (modelBlock b)) (λ m.
+    then-not-zero (readModels s (before + length (m .geometries)) ps) _ (models-not-zero s (before + length (m .geometries)) ps) (λ ms. refl))))
 
 pub record MeasuringModels (s : Sections) (ps : List ℕ) (i total count : ℕ) : Type 0 where
   pub done : List Model
@@ -83,7 +56,7 @@ pub record MeasuringModels (s : Sections) (ps : List ℕ) (i total count : ℕ) 
   pub whole : readModels s 0 ps ≡ prepend done (readModels s count (drop i ps))
 
 pub models-start : (s : Sections) (ps : List ℕ) → MeasuringModels s ps 0 0 0
-unfolding write
+unfolding each
 models-start s ps = record { done = []; low = omega arith; total-is = refl; count-is = refl; bound = omega arith; few = omega arith; whole = prepend-none (readModels s 0 ps) }
 
 module _ {s : Sections} {ps : List ℕ} {i total count : ℕ} (m : MeasuringModels s ps i total count) where
@@ -108,6 +81,12 @@ module _ {s : Sections} {ps : List ℕ} {i total count : ℕ} (m : MeasuringMode
     }
 
     module _ (pointer : ℕ) (at : getD ps i 0 ≡ pointer) (set : pointer ≡ 0 → ⊥) (v : Measured) (same : v ≡ measuredModel (modelAt s count pointer)) where
+      abbrev modelBytes : Model → ℕ
+      modelBytes x = length (writeModel x)
+
+      abbrev modelCount : Model → ℕ
+      modelCount x = length (x .geometries)
+
       abbrev onward : Model → Reading (List Model)
       onward x = andThen (readModels s (count + length (x .geometries)) (drop (suc i) ps)) (λ ms. read (x ∷ ms))
 
@@ -116,17 +95,19 @@ module _ {s : Sections} {ps : List ℕ} {i total count : ℕ} (m : MeasuringMode
       step = rw (next, at, ne-eqb pointer 0 set) (need-then 3 (resolved s pointer 0x30) (λ b. readModel s count (modelBlock b)) onward)
 
       pub models-refused : (v .refusal ≡ 0 → ⊥) → v ≡ measuredModels (readModels s 0 ps)
-      models-refused h = refused-as (modelAt s count pointer) v (m .done) onward same h ∙ ap measuredModels (ap (prepend (m .done)) (sym step) ∙ sym (m .whole))
+      models-refused h =
+          refused-as modelBytes modelCount (λ (ms : List Model). length (write ms)) geometriesIn (modelAt s count pointer) v (λ x. prepend (m .done) (onward x)) same h
+          ∙ ap measuredModels (sym (prepend-then (m .done) (modelAt s count pointer) onward) ∙ ap (prepend (m .done)) (sym step) ∙ sym (m .whole))
 
       pub models-one : v .refusal ≡ 0 → v .«length» ≤ v .count * 2 ^ 49 + 2 ^ 20 → count + v .count ≤ 16384 → MeasuringModels s ps (i + 1) (total + v .«length») (count + v .count)
       models-one h small room =
-          let a = read-as (modelAt s count pointer) v same (model-not-zero s count pointer) h in
-          let x : Model = a .model in
+          let a = read-as modelBytes modelCount (modelAt s count pointer) v same (model-not-zero s count pointer) h in
+          let x : Model = a .value in
           let onto : ℕ → ℕ → Reading (List Model) = λ k j. prepend (m .done ++ (x ∷ [])) (readModels s k (drop j ps)) in
           record {
             done = m .done ++ (x ∷ []);
             low = omega arith;
-            total-is = rw (write-snoc (m .done) x, length-append) (omega (arith, m .total-is, a .long));
+            total-is = rw (each-snoc writeModel (m .done) x, length-append) (omega (arith, m .total-is, a .long));
             count-is = rw (geometries-snoc (m .done) x) (omega (arith, m .count-is, a .many));
             bound = omega (arith, m .bound);
             few = room;

@@ -18,7 +18,7 @@ use Rattle.sections.proofs.AddressLaws.{HasBytes, located-found}
 use Rattle.vertices.specs.Buffer.{foundBuffer, vertexBufferAt}
 use Rattle.vertices.specs.declared.buffer.VertexBuffer.{VertexBuffer}
 use Rattle.vertices.proofs.BufferLaws.{FoundData, buffer-data}
-use Rattle.halls.specs.List.{optional, geometryRecord, declarationRecord, verticesRecord, indicesRecord, writeGeometry, writeGeometries}
+use Rattle.halls.specs.List.{each, optional, geometryRecord, declarationRecord, verticesRecord, indicesRecord, writeGeometry, writeGeometries}
 use Rattle.halls.specs.Blocks.{GeometryBlock, geometryBlock, IndexBlock, indexBlock}
 use Rattle.halls.specs.Reading.{orEmpty, storedIn, verticesOf, indicesOf, geometryWith, geometryOf}
 use Rattle.halls.specs.View.{HeldIn, BufferHeld, IndicesHeld, seenAt, viewAt, sizedView, orView, blockView, geometryView, viewWith, bufferRecords, indexRecord, indexViewIn, viewRecords, numbersSeen, viewLength, geometryIn}
@@ -139,7 +139,7 @@ view-held s m shader b = record {
 
 module _ (s : Sections) (shader pointer : ℕ) (raw : List ℕ) (e : resolved s pointer 0x98 ≡ some raw) (v : GeometryView) (q : v ≡ geometryView s shader (geometryBlock raw)) where
   pub seen-records : viewRecords s v ≡ writeGeometries (geometryIn s shader (resolved s pointer 0x98))
-  unfolding writeGeometries
+  unfolding each
   seen-records =
       ap (viewRecords s) q ∙ view-records s shader (geometryBlock raw) ∙ sym (append-nil (writeGeometry (geometryOf s shader (geometryBlock raw))))
       ∙ ap (λ (o : Option (List ℕ)). writeGeometries (geometryIn s shader o)) (sym e)

@@ -1,6 +1,6 @@
 -- Two-byte numbers written with four bytes each: what stands in the list after some of them.
 use mathlib.Core.Path.{_≡_, refl, sym, ap, _∙_}
-use mathlib.Core.List.{List, [], _++_}
+use mathlib.Core.List.{List, _++_}
 use Prim.Native.Nat.{ℕ, _+_, _*_, _≤_, _<_}
 use native.Mathlib.Omega.{arith}
 use lib.ListN.{length, drop}
@@ -35,7 +35,7 @@ widening-start raw d at n h = record { room = h; low = omega arith; same = refl;
 
 module _ {raw d : List ℕ} {at n : ℕ} {b : List ℕ} {i : ℕ} (w : Widening raw d at n b i) where
   -- j numbers more
-  pub widening-turn : (j : ℕ) {t : List ℕ} → i + j ≤ n → t ≡ overwrite b (at + i * 4) (wide j (drop (i * 2) raw)) → Widening raw d at n t (i + j)
+  widening-turn : (j : ℕ) {t : List ℕ} → i + j ≤ n → t ≡ overwrite b (at + i * 4) (wide j (drop (i * 2) raw)) → Widening raw d at n t (i + j)
   widening-turn j h e =
       let more : List ℕ = wide j (drop (i * 2) raw) in
       let long : length more ≡ j * 4 = wide-length j (drop (i * 2) raw) in

@@ -50,6 +50,11 @@ abbrev pub optional : {A : Type 0} → (A → List ℕ) → Option A → List �
 optional f none = []
 optional f (some x) = f x
 
+-- the bytes of some items, one behind the other
+unfoldable pub each : {A : Type 0} → (A → List ℕ) → List A → List ℕ
+each f [] = []
+each f (x ∷ xs) = f x ++ each f xs
+
 unfoldable pub modelRecord : Model → List ℕ
 modelRecord m = recordBytes 1 (bytes 4 (m .binding) ++ (bytes 2 (m .mask) ++ run 2 (m .mapping)))
 
@@ -70,14 +75,12 @@ unfoldable pub writeGeometry : Geometry → List ℕ
 writeGeometry g =
     geometryRecord g ++ (optional declarationRecord (g .declaration) ++ (optional verticesRecord (g .vertices) ++ optional indicesRecord (g .indices)))
 
-unfoldable pub writeGeometries : List Geometry → List ℕ
-writeGeometries [] = []
-writeGeometries (g ∷ gs) = writeGeometry g ++ writeGeometries gs
+abbrev pub writeGeometries : List Geometry → List ℕ
+writeGeometries gs = each writeGeometry gs
 
 unfoldable pub writeModel : Model → List ℕ
 writeModel m = modelRecord m ++ writeGeometries (m .geometries)
 
 -- the list's bytes, in walk order
-unfoldable pub write : List Model → List ℕ
-write [] = []
-write (m ∷ ms) = writeModel m ++ write ms
+abbrev pub write : List Model → List ℕ
+write ms = each writeModel ms

@@ -27,13 +27,16 @@ lengthIn s shader (some b) = length (writeGeometry (geometryOf s shader (geometr
 unfoldable pub lengthAt : Sections → ℕ → ℕ → ℕ
 lengthAt s shader pointer = lengthIn s shader (resolved s pointer 0x98)
 
+-- by the bytes and the geometries of what was read
+abbrev pub measured : {A : Type 0} → (A → ℕ) → (A → ℕ) → Reading A → Measured
+measured bytesOf countOf (refused check) = record { refusal = check; «length» = 0; count = 0 }
+measured bytesOf countOf (read x) = record { refusal = 0; «length» = bytesOf x; count = countOf x }
+
 abbrev pub measuredGeometries : Reading (List Geometry) → Measured
-measuredGeometries (refused check) = record { refusal = check; «length» = 0; count = 0 }
-measuredGeometries (read gs) = record { refusal = 0; «length» = length (writeGeometries gs); count = length gs }
+measuredGeometries r = measured (λ (gs : List Geometry). length (writeGeometries gs)) (λ (gs : List Geometry). length gs) r
 
 abbrev pub measuredModel : Reading Model → Measured
-measuredModel (refused check) = record { refusal = check; «length» = 0; count = 0 }
-measuredModel (read m) = record { refusal = 0; «length» = length (writeModel m); count = length (m .geometries) }
+measuredModel r = measured (λ (m : Model). length (writeModel m)) (λ (m : Model). length (m .geometries)) r
 
 -- the model behind a pointer: check 3, then its block
 unfoldable pub modelAt : Sections → ℕ → ℕ → Reading Model
@@ -44,5 +47,4 @@ geometriesIn [] = 0
 geometriesIn (m ∷ ms) = length (m .geometries) + geometriesIn ms
 
 abbrev pub measuredModels : Reading (List Model) → Measured
-measuredModels (refused check) = record { refusal = check; «length» = 0; count = 0 }
-measuredModels (read ms) = record { refusal = 0; «length» = length (write ms); count = geometriesIn ms }
+measuredModels r = measured (λ (ms : List Model). length (write ms)) geometriesIn r

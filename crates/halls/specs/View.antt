@@ -21,6 +21,7 @@ use Rattle.vertices.specs.Runs.{numbers}
 use Rattle.halls.specs.List.{Indices, Geometry, Model, optional, geometryRecord, declarationRecord, verticesRecord, indicesRecord}
 use Rattle.halls.specs.Blocks.{ModelBlock, modelBlock, GeometryBlock, geometryBlock, IndexBlock, indexBlock}
 use Rattle.halls.specs.Reading.{orEmpty, vertexCountOf, declarationOf, verticesOf, geometryOf, first, rest, listAt, mappingOf}
+use Rattle.halls.specs.Measure.{listBytes}
 use Rattle.halls.specs.declared.view.IndexView.{IndexView}
 use Rattle.halls.specs.declared.view.FoundIndices.{FoundIndices}
 use Rattle.halls.specs.declared.view.FoundIndices.the-variants.{Indices as Seen, Absent as Unseen}
@@ -154,6 +155,12 @@ geometryIn s shader (some b) = geometryOf s shader (geometryBlock b) ∷ []
 unfoldable pub geometriesAt : Sections → List ℕ → List ℕ → List Geometry
 geometriesAt s mapping [] = []
 geometriesAt s mapping (p ∷ ps) = geometryIn s (first mapping) (resolved s p 0x98) ++ geometriesAt s (rest mapping) ps
+
+-- these are the bytes of a model's two lists
+pub record ListsOf (s : Sections) (b : ModelBlock) (pointers mapping : List ℕ) : Type 0 where
+  pub few : b .count < 65536
+  pub pointers-are : pointers ≡ orEmpty (listBytes s 8 (b .count) (b .geometries))
+  pub mapping-is : mapping ≡ orEmpty (listBytes s 2 (b .count) (b .mapping))
 
 unfoldable pub modelOf : Sections → ModelBlock → Model
 modelOf s b = record {

@@ -3,8 +3,11 @@ mod answer;
 mod list;
 mod measure;
 mod model;
+mod pointers;
+mod reader;
 mod records;
 mod view;
+mod widen;
 mod write;
 
 pub use answer::Answer;
@@ -12,3 +15,4 @@ pub use answer::Refusal;
 pub use list::hall_list;
 pub use model::bone_index;
 pub use model::is_skinned;
+pub use reader::ResReader;

@@ -4,12 +4,12 @@ ghost use Prim.Native.Nat.{_<_, _≤_, _+_, _*_, _^_, _/_};
 ghost use lib.ListN.{length};
 ghost use Rattle.sections.specs.Address.{sections};
 ghost use Rattle.vertices.specs.Runs.{numbers};
-ghost use Rattle.halls.specs.Reading.{orEmpty, readGeometries, readModels};
-ghost use Rattle.halls.specs.Measure.{missing, listBytes, lengthAt, measuredGeometries, measuredModel, measuredModels, modelAt};
+ghost use Rattle.halls.specs.Reading.{readGeometries, readModels};
+ghost use Rattle.halls.specs.Measure.{lengthAt, measuredGeometries, measuredModel, measuredModels, modelAt};
+use crate::pointers::list_bytes;
+use crate::pointers::unresolved_list;
 use crate::view::geometry_view;
 use crate::view::view_length;
-use sections::LocatedList;
-use sections::locate_list;
 use sections::resolve;
 use sections::u16_le;
 use sections::u64_le;
@@ -130,47 +130,6 @@ fn refused(check: u8) -> Measured
         length: 0,
         count: 0,
     }
-}
-
-// Whether a list with a count and a pointer does not resolve.
-pub fn unresolved_list<'a>(
-    system: &'a [u8],
-    graphics: &'a [u8],
-    width: u8,
-    count: u32,
-    pointer: u64,
-) -> bool
-    ensures { λ r. ⌜ r ≡ missing (listBytes (sections (now (system .entry)) (now (graphics .entry))) width count pointer) ⌝ }
-{
-    match locate_list(system, graphics, pointer, count, width) {
-        LocatedList::Unresolved => true,
-        LocatedList::Empty => false,
-        LocatedList::Found(_) => false,
-    }
-}
-
-// The bytes of a list's elements, none where it is empty or does not resolve.
-pub fn list_bytes<'a>(
-    system: &'a [u8],
-    graphics: &'a [u8],
-    width: u8,
-    count: u32,
-    pointer: u64,
-) -> &'a [u8]
-    ensures { λ r. ⌜ now r ≡ orEmpty (listBytes (sections (now (system .entry)) (now (graphics .entry))) width count pointer) ⌝ }
-{
-    if count == 0 {
-        return &system[..0];
-    }
-    if pointer == 0 {
-        return &system[..0];
-    }
-    resolve(
-        system,
-        graphics,
-        pointer,
-        (count as usize) * (width as usize),
-    )
 }
 
 // The bytes of the geometry behind a pointer, 0 where its block does not resolve.

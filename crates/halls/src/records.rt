@@ -13,11 +13,11 @@ ghost use Rattle.halls.specs.declared.view.FoundIndices.the-variants.{In
 use crate::view::GeometryView;
 use crate::view::IndexView;
 use crate::view::held;
+use crate::widen::put_widened;
 use sections::copy_into;
 use sections::put_u8_le;
 use sections::put_u16_le;
 use sections::put_u32_le;
-use sections::u16_le;
 use vertices::VertexBuffer;
 use vertices::VertexDeclaration;
 use vertices::write_declaration;
@@ -88,18 +88,6 @@ fn put_items(out: &mut [u8], at: usize, view: IndexView, raw: &[u8])
     }
     if view.width == 4 {
         copy_into(out, at, raw);
-    }
-}
-
-// Two-byte indices as four-byte ones.
-pub fn put_widened(out: &mut [u8], at: usize, raw: &[u8], n: usize)
-    requires { ⌜ (n * 2 ≤ length (now raw)) × (at + n * 4 ≤ length (now out)) ⌝ }
-    ensures { λ _. ⌜ now (out .exit) ≡ overwrite (now (out .entry)) at (run 4 (numbers 2 n (now (raw .entry)))) ⌝ }
-{
-    let mut i = 0;
-    while i < n {
-        put_u32_le(out, at + i * 4, u16_le(raw, i * 2) as u32);
-        i += 1;
     }
 }
 

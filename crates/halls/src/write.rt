@@ -7,8 +7,8 @@ ghost use Rattle.sections.specs.Edit.{overwrite};
 ghost use Rattle.vertices.specs.Runs.{numbers};
 ghost use Rattle.halls.specs.List.{writeGeometries, writeModel, write};
 ghost use Rattle.halls.specs.Blocks.{modelBlock};
-ghost use Rattle.halls.specs.View.{modelIn, modelsAt, modelOf, geometriesAt, geometryIn, BufferHeld, IndicesHeld, storedRecord, bufferRecords, indexRecord, viewRecords, declarationLength, bufferLength, indicesLength, viewLength};
-use crate::measure::list_bytes;
+ghost use Rattle.halls.specs.View.{ListsOf, modelIn, modelsAt, modelOf, geometriesAt, geometryIn, BufferHeld, IndicesHeld, storedRecord, bufferRecords, indexRecord, viewRecords, declarationLength, bufferLength, indicesLength, viewLength};
+use crate::pointers::list_bytes;
 use crate::records::put_declaration;
 use crate::records::put_geometry;
 use crate::records::put_indices;
@@ -81,6 +81,22 @@ pub fn write_model<'a>(
     let count = u16_le(raw, 0x10) as u32;
     let pointers = list_bytes(system, graphics, 8, count, u64_le(raw, 0x08));
     let mapping = list_bytes(system, graphics, 2, count, u64_le(raw, 0x20));
+    write_lists(out, at, system, graphics, raw, pointers, mapping)
+}
+
+// The model of a block with its lists: its record, and its geometries behind it.
+fn write_lists<'a>(
+    out: &mut [u8],
+    at: usize,
+    system: &'a [u8],
+    graphics: &'a [u8],
+    raw: &[u8],
+    pointers: &[u8],
+    mapping: &[u8],
+) -> usize
+    requires { ⌜ (length (now system) ≤ 67108864) × (length (now graphics) ≤ 67108864) × (ListsOf (sections (now system) (now graphics)) (modelBlock (now raw)) (now pointers) (now mapping)) × (at + length (writeModel (modelOf (sections (now system) (now graphics)) (modelBlock (now raw)))) ≤ length (now out)) ⌝ }
+    ensures { λ r. ⌜ (r ≡ at + length (writeModel (modelOf (sections (now (system .entry)) (now (graphics .entry))) (modelBlock (now (raw .entry)))))) × (now (out .exit) ≡ overwrite (now (out .entry)) at (writeModel (modelOf (sections (now (system .entry)) (now (graphics .entry))) (modelBlock (now (raw .entry)))))) ⌝ }
+{
     put_model(out, at, u32_le(raw, 0x28), u16_le(raw, 0x2C), mapping);
     let next = at + (12 + mapping.len());
     write_geometries(out, next, system, graphics, pointers, mapping)

@@ -8,7 +8,8 @@ use Rattle.sections.specs.Address.{sections}
 use Rattle.vertices.specs.Runs.{numbers}
 use Rattle.vertices.proofs.RunLaws.{numbers-length}
 use Rattle.halls.specs.Measure.{measuredGeometries}
-use Rattle.halls.proofs.Measuring.{Measuring, measuring-start, measuring-end, measuring-null, measuring-full, measuring-unresolved, measuring-one, number-field, length-at-zero, length-at-some}
+use Rattle.halls.proofs.Measuring.{Measuring, measuring-start, measuring-end, measuring-null, measuring-full, measuring-unresolved, measuring-one, length-at-zero, length-at-some}
+use Rattle.halls.proofs.PointerLists.{number-field}
 use Rattle.halls.proofs.measure.measure_geometries.Statement.{statement}
 use Rattle.halls.proofs.measure.measure_geometries.Tie as tie
 

@@ -8,7 +8,8 @@ use Rattle.sections.proofs.AddressLaws.{resolved-whole, resolved-short}
 use Rattle.sections.specs.Address.{sections}
 use Rattle.halls.specs.Measure.{measuredModel}
 use Rattle.halls.specs.declared.measure.Measured.{Measured}
-use Rattle.halls.proofs.ModelLaws.{model-unresolved, model-no-list, model-refused, model-accepted, block-of, list-short}
+use Rattle.halls.proofs.ListBytes.{list-short}
+use Rattle.halls.proofs.ModelLaws.{model-unresolved, model-no-list, model-refused, model-accepted, block-of}
 use Rattle.halls.proofs.measure.measure_model.Statement.{statement}
 use Rattle.halls.proofs.measure.measure_model.Tie as tie
 

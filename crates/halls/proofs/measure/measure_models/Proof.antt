@@ -7,8 +7,8 @@ use lib.ListN.{length, getD}
 use Rattle.sections.specs.Address.{sections}
 use Rattle.vertices.specs.Runs.{numbers}
 use Rattle.vertices.proofs.RunLaws.{numbers-length}
-use Rattle.halls.proofs.Measuring.{number-field}
 use Rattle.halls.proofs.MeasuringModels.{MeasuringModels, models-start, models-end, models-null, models-refused, models-one}
+use Rattle.halls.proofs.PointerLists.{number-field}
 use Rattle.halls.proofs.measure.measure_models.Statement.{statement}
 use Rattle.halls.proofs.measure.measure_models.Tie as tie
 

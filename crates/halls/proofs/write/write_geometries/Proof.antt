@@ -1,20 +1,17 @@
 -- Each turn writes what is behind one pointer right behind what was written.
-use mathlib.Core.Path.{sym, _∙_}
-use Prim.Native.Nat.{_-_, _/_}
+use Prim.Native.Nat.{_-_}
 use native.Mathlib.Omega.{arith}
 use borrow.Author.Needs.{needs}
-use lib.ListN.{length}
 use Rattle.sections.specs.Address.{sections}
-use Rattle.vertices.specs.Runs.{numbers}
-use Rattle.vertices.proofs.RunLaws.{numbers-length}
-use Rattle.halls.proofs.Measuring.{number-field}
-use Rattle.halls.proofs.WritingGeometries.{WritingGeometries, geometries-start, geometries-room, geometries-turn, geometries-place, geometries-end}
+use Rattle.halls.specs.List.{writeGeometry}
+use Rattle.halls.proofs.Walks.{geometriesLeft, geometries-none, geometries-next}
+use Rattle.halls.proofs.WritingItems.{WritingItems, items-start, items-room, items-turn, items-place, items-end}
 use Rattle.halls.proofs.write.write_geometries.Statement.{statement}
 use Rattle.halls.proofs.write.write_geometries.Tie as tie
 
 abbrev Inv-loop : tie.InvT-loop
 Inv-loop out₀ at system graphics pointers mapping n i₀ next₀ out i next =
-    WritingGeometries (sections system graphics) (numbers 2 (length mapping / 2) mapping) (numbers 8 (length pointers / 8) pointers) out₀ at out i next
+    WritingItems writeGeometry (geometriesLeft (sections system graphics) pointers mapping) out₀ at out i next
 
 abbrev μ-loop : tie.MeasureT-loop
 μ-loop out₀ at system graphics pointers mapping n i₀ next₀ out i next = n - i
@@ -22,25 +19,26 @@ abbrev μ-loop : tie.MeasureT-loop
 requires : tie.Need-write-geometry-at-requires Inv-loop μ-loop
 requires c κs =
     let start = c .before .before .before .before .before .before .before .before .before .before in
-    let w = c .before .before .before .before .loop .inv in
-    let i = c .before .before .before .before .loop .i in
-    let mapping = start .args .mapping .now in
-    let pointers = start .args .pointers .now in
-    let shader = number-field 2 (length mapping / 2) mapping i (omega arith) (omega arith) ∙ sym (c .before .before .u16-le .ensures) in
-    let pointer = number-field 8 (length pointers / 8) pointers i (omega arith) (omega arith) ∙ sym (c .before .u64-le .ensures) in
-    (start .pre .0, start .pre .1, geometries-room w (rw numbers-length (c .before .before .before .loop-test .taken)) _ _ shader pointer)
+    let turn = c .before .before .before .before .loop in
+    let s = sections (start .args .system .now) (start .args .graphics .now) in
+    let next = geometries-next s (start .args .pointers .now) (start .args .mapping .now) (turn .i) _ _ (c .before .before .before .loop-test .taken) (c .before .before .u16-le .ensures) (c .before .u64-le .ensures) in
+    (start .pre .0, start .pre .1, items-room (turn .inv) _ next)
 
 again : tie.Need-loop-again Inv-loop μ-loop
 again c =
     let start = c .before .before .before .before .before .before .before .before .before .before .before .before .before in
-    let w = c .before .before .before .before .before .before .before .loop .inv in
-    let i = c .before .before .before .before .before .before .before .loop .i in
-    let mapping = start .args .mapping .now in
-    let pointers = start .args .pointers .now in
-    let shader = number-field 2 (length mapping / 2) mapping i (omega arith) (omega arith) ∙ sym (c .before .before .before .before .before .u16-le .ensures) in
-    let pointer = number-field 8 (length pointers / 8) pointers i (omega arith) (omega arith) ∙ sym (c .before .before .before .before .u64-le .ensures) in
+    let turn = c .before .before .before .before .before .before .before .loop in
+    let s = sections (start .args .system .now) (start .args .graphics .now) in
+    let next = geometries-next s (start .args .pointers .now) (start .args .mapping .now) (turn .i) _ _ (c .before .before .before .before .before .before .loop-test .taken) (c .before .before .before .before .before .u16-le .ensures) (c .before .before .before .before .u64-le .ensures) in
     let put = c .before .before .write-geometry-at .ensures in
-    geometries-turn w (rw numbers-length (c .before .before .before .before .before .before .loop-test .taken)) _ _ shader pointer (put .0) (put .1)
+    items-turn (turn .inv) _ next (put .0) (put .1)
+
+returns : tie.Need-returns Inv-loop μ-loop
+returns c =
+    let start = c .before .before .before .before .before .before .before in
+    let w = c .before .loop .inv in
+    let none = geometries-none (sections (start .args .system .now) (start .args .graphics .now)) (start .args .pointers .now) (start .args .mapping .now) (c .before .loop .i) (c .loop-test .left) in
+    (items-place w none, items-end w none)
 
 pub write-geometries-spec : {M : Type 1} → statement M
 write-geometries-spec =
@@ -48,7 +46,7 @@ write-geometries-spec =
     (tie.spec
     Inv-loop
     μ-loop
-    (λ c. geometries-start _ _ _ _ _ (c .before .before .before .before .before .pre .3))
+    (λ c. items-start _ _ _ _ (c .before .before .before .before .before .pre .3))
     (λ c. omega arith)
     (λ c κs. search needs)
     (λ c. omega arith)
@@ -58,6 +56,4 @@ write-geometries-spec =
     (λ c. omega arith)
     again
     (λ c. c .before .loop .inv .same)
-    (λ c.
-    let w = c .before .loop .inv in
-    (geometries-place w (rw numbers-length (c .loop-test .left)), geometries-end w (rw numbers-length (c .loop-test .left)))))
+    returns)

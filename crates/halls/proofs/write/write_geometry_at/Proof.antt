@@ -7,13 +7,13 @@ use Rattle.sections.specs.Address.{sections}
 use Rattle.sections.specs.Edit.{overwrite}
 use Rattle.sections.proofs.AddressLaws.{resolved-whole, resolved-short}
 use Rattle.sections.proofs.EditLaws.{overwrite-none}
-use Rattle.halls.specs.List.{writeGeometries}
+use Rattle.halls.specs.List.{each}
 use Rattle.halls.proofs.ViewRecords.{seen-records, seen-length, seen-held}
 use Rattle.halls.proofs.write.write_geometry_at.Statement.{statement}
 use Rattle.halls.proofs.write.write_geometry_at.Tie as tie
 
 nothing : tie.Need-returns
-unfolding writeGeometries
+unfolding each
 nothing c =
     let start = c .before .before .before .before .before in
     let short = resolved-short (sections (start .args .system .now) (start .args .graphics .now)) (start .args .pointer) 152 (rw (c .before .resolve .ensures) at (c .if1 .taken)) in
