@@ -1,5 +1,6 @@
 """What the makers of rows share: numbers and bytes as the crate `testing` prints and makes them, addresses in two sections, and the files of
 a test program."""
+import functools
 import struct
 
 U64 = 1 << 64
@@ -14,6 +15,7 @@ def pattern(count, seed):
     return bytes((i % 65536 * 167 + i % 65536 // 251 + seed) % 256 for i in range(count))
 
 
+@functools.lru_cache(maxsize=16)
 def checksum(data):
     total = 0
     for b in data:
