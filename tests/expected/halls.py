@@ -4,8 +4,9 @@ python3 tests/expected/halls.py
 
 It writes crates/halls_test/stdin, rows of seven little-endian u64 (what is called, what with, and how many bytes follow) and those bytes,
 and crates/halls_test/stdout. The answers come from a reader written here from document 01 (`pieces`). Where cargo and the original Rust are at
-hand (rust/oracle/README.md), the oracle is asked too, and the two must agree on every drawable, but for checks 1, 5 and 7, which the Rust
-has not."""
+hand (rust/oracle/README.md), the oracle is asked too, and the two must agree on every drawable. The Rust has no checks 1, 5 and 7: it is not asked
+about drawables that 1 or 5 refuse, nor about lists of 64 MiB and more, and of the others the whole list is compared."""
+import collections
 import functools
 import os
 import random
@@ -19,8 +20,8 @@ from rows import GRAPHICS, SYSTEM, U64, checksum, hexed, locate, packed_with, pa
 BASES = {"system": SYSTEM, "graphics": GRAPHICS}
 LIMIT = 67108864
 # a row's bytes and a list's buffer; in long rows the section and the buffer
-ROW, ROOM, LONG = 4096, 4096, 0x140000
-rows, lines, asked_of_oracle = [], [], {}
+ROW, ROOM, LONG = 4096, 4096, 0x90000
+rows, lines, drawables = [], [], {}
 
 
 # ---- reading, from document 01
@@ -127,38 +128,37 @@ def pieces(sections, va):
 # ---- rows
 
 
-def answer(sections, va, room, whole):
+Drawable = collections.namedtuple("Drawable", "system graphics va")
+Reading = collections.namedtuple("Reading", "check pieces needed")
+
+
+@functools.lru_cache(None)
+def read(drawable):
+    """Checks 1 to 6: the one that refused, or 0, the list's bytes in pieces, and their number."""
+    try:
+        found = pieces({"system": drawable.system, "graphics": drawable.graphics}, drawable.va)
+    except Refused as refused:
+        return Reading(refused.check, [], 0)
+    return Reading(0, found, sum(len(piece) for piece in found))
+
+
+def answer(drawable, room, whole):
     """What the call says, the buffer's checksum afterwards, and a short list's bytes."""
-    try:
-        found = pieces(sections, va)
-    except Refused as refused:
-        return " refused" + hexed(refused.check) + " needed 0" + hexed(checksum(whole)), None
-    needed = sum(len(piece) for piece in found)
-    if needed > room:
-        return " refused 7 needed" + hexed(needed) + hexed(checksum(whole)), None
+    check, found, needed = read(drawable)
+    if check or needed > room:
+        return " refused" + hexed(check or 7) + " needed" + hexed(needed) + hexed(checksum(whole))
     written = b"".join(found)
-    return " accepted" + hexed(needed, checksum(written + whole[needed:])) + (" " + written.hex() if needed <= 256 else ""), written
+    return " accepted" + hexed(needed, checksum(written + whole[needed:])) + (" " + written.hex() if needed <= 256 else "")
 
 
-def remember(system, graphics, va):
-    """What the oracle is to be asked, with what it must say, unless the list has many megabytes or the Rust has no such check."""
-    if (system, graphics, va) in asked_of_oracle:
-        return
-    try:
-        found = pieces({"system": system, "graphics": graphics}, va)
-        expected = "list " + b"".join(found).hex() if sum(len(piece) for piece in found) < LIMIT else None
-    except Refused as refused:
-        expected = "refused %d" % refused.check if refused.check in (2, 3, 4, 6) else None
-    asked_of_oracle[system, graphics, va] = expected
-
-
-def length_of(drawable):
-    """The list's bytes, 0 where reading is refused."""
-    system, graphics, va = drawable
-    try:
-        return sum(len(piece) for piece in pieces({"system": system, "graphics": graphics}, va))
-    except Refused:
-        return 0
+def row(kind, name, drawable, numbers, whole, data):
+    """numbers: the sections' lengths, the address, the length of the list's buffer, and what else the row needs."""
+    line = answer(drawable, numbers[3], whole)
+    assert len(data) <= ROW and numbers[3] <= len(whole)
+    drawables[drawable] = True
+    rows.append(packed_with(kind, numbers, data))
+    lines.append(name + hexed(*numbers) + ":" + line)
+    return line
 
 
 FIRST_LIST, FIRST_LONG_LIST = pattern(ROOM, 129), pattern(LONG, 129)
@@ -167,37 +167,25 @@ FIRST_LIST, FIRST_LONG_LIST = pattern(ROOM, 129), pattern(LONG, 129)
 def list_row(drawable, room=None):
     """Into a buffer of `room` bytes, by default a few more than are needed."""
     system, graphics, va = drawable
-    room = length_of(drawable) + 5 if room is None else room
-    assert len(system) + len(graphics) <= ROW and room <= ROOM
-    remember(system, graphics, va)
-    numbers = [len(system), len(graphics), va, room]
-    line, written = answer({"system": system, "graphics": graphics}, va, room, FIRST_LIST)
-    rows.append(packed_with(0, numbers, system + graphics))
-    lines.append("list" + hexed(*numbers) + ":" + line)
-    return written
+    room = read(drawable).needed + 5 if room is None else room
+    row(0, "list", drawable, [len(system), len(graphics), va, room], FIRST_LIST, system + graphics)
 
 
 def list_rows(drawable):
     """Into buffers exactly long enough, one byte short, empty and longer."""
-    needed = length_of(drawable)
+    needed = read(drawable).needed
     for room in sorted({0, max(needed - 1, 0), needed, needed + 1, ROOM}):
         list_row(drawable, room)
 
 
-def long_row(head, runs, va, room, size=LONG):
-    """The system section has the bytes of head, then zeros; each run puts `count` u64 of a value into it, `step` bytes apart."""
-    system = bytearray(head + bytes(size - len(head)))
+def long_row(head, runs, va, room):
+    """The system section begins with head, then zeros; each run puts `count` u64 of a value into it, `step` bytes apart."""
+    system = bytearray(head + bytes(LONG - len(head)))
     for at, step, count, value in runs:
         for i in range(count):
             struct.pack_into("<Q", system, at + step * i, value)
-    remember(bytes(system), b"", va)
-    numbers = [size, 0, va, room, len(runs)]
-    line, _ = answer({"system": bytes(system), "graphics": b""}, va, room, FIRST_LONG_LIST)
     data = b"".join(struct.pack("<4Q", *run) for run in runs) + head
-    assert len(data) <= ROW and room <= LONG and len(line) < 1000
-    rows.append(packed_with(1, numbers, data))
-    lines.append("long" + hexed(*numbers) + ":" + line)
-    return line
+    return row(1, "long", Drawable(bytes(system), b"", va), [LONG, 0, va, room, len(runs)], FIRST_LONG_LIST, data)
 
 
 # ---- writing drawables
@@ -258,7 +246,7 @@ class Writer:
         return self.put("header", struct.pack("<QHHI", models, count, capacity, 0xEEEEEEEE))
 
     def drawable(self, va):
-        return bytes(self.sections["system"]), bytes(self.sections["graphics"]), va
+        return Drawable(bytes(self.sections["system"]), bytes(self.sections["graphics"]), va)
 
     def end(self, section):
         return BASES[section] + len(self.sections[section])
@@ -288,19 +276,16 @@ NOWHERE = [1, 0x30000000, 0x40000000, SYSTEM - 1, 0x5FFFFFFF, 0x6FFFFFFF, 0x7000
 
 
 def vector_rows():
-    assert length_of(vector()) == 127
+    assert read(vector()).needed == 127
     list_rows(vector())
     # each block, and all others, alone in the other section: whole at its end, one byte short, one byte further on
     for home, other in [("system", "graphics"), ("graphics", "system")]:
         list_row(vector(Writer(home)))
         for name in NAMES:
-            system, graphics, va = vector(Writer(home, [name]))
-            list_row((system, graphics, va))
-            if other == "graphics":
-                list_row((system, graphics[:-1], va))
-            else:
-                list_row((system[:-1], graphics, va))
-            list_row((system[1:], graphics, va))
+            whole = vector(Writer(home, [name]))
+            list_row(whole)
+            list_row(whole._replace(**{other: getattr(whole, other)[:-1]}))
+            list_row(whole._replace(**{other: getattr(whole, other)[1:]}))
 
 
 # ---- headers
@@ -316,12 +301,12 @@ def header_rows():
         for pointer in [0, *NOWHERE[:3], w.end("system") - 7, w.end("system")]:
             list_row(w.drawable(w.header(pointer, count, capacity)))
     # no header: the empty list, in a buffer of any length
-    system, graphics, va = vector()
-    for nowhere in [0, *NOWHERE, va + 1, GRAPHICS]:
-        list_row((system, graphics, nowhere))
-        list_row((system, graphics, nowhere), 0)
-    list_row((b"", b"", SYSTEM))
-    list_row((b"", b"", GRAPHICS))
+    whole = vector()
+    for nowhere in [0, *NOWHERE, whole.va + 1, GRAPHICS]:
+        list_row(whole._replace(va=nowhere))
+        list_row(whole._replace(va=nowhere), 0)
+    list_row(Drawable(b"", b"", SYSTEM))
+    list_row(Drawable(b"", b"", GRAPHICS))
 
 
 # ---- models and geometries
@@ -405,6 +390,13 @@ def geometry_refusal_rows():
         whole = triangle(w)
         models = [{"3": 1, "4": w.model(1, 1), "6": w.model([whole, 1]), ".": w.model([whole])}[kind] for kind in kinds]
         list_row(w.drawable(w.header(models)), 100)
+
+
+def binding_rows():
+    """The bone is the binding's top byte; its byte 1 says whether vertices are skinned."""
+    for binding in [0, 1, 0xFF, 0x100, 0xFF00, 0x10000, 0xFF00FF, 0x1000000, 0x12345678, 0x80000000, 0xFFFF00FF, 0xFFFFFFFF]:
+        rows.append(packed_with(2, [binding], b""))
+        lines.append("binding" + hexed(binding) + ":" + hexed(binding >> 24) + (" skinned" if binding >> 8 & 0xFF else " rigid"))
 
 
 # ---- vertices
@@ -525,27 +517,26 @@ def aliased_rows():
         for place, value in [(0x00, at), (0x08, at), (0x18, at), (0x20, at), (0x28, at), (0x38, at), (0x60, 1), (0x70, 0x98), (0x78, at)]:
             struct.pack_into("<Q", raw, place, value)
         struct.pack_into("<H", raw, 0x10, 1)
-        list_rows((bytes(raw), bytes(raw), at))
-        list_row((bytes(raw[:-1]), bytes(raw[:-1]), at))
+        list_rows(Drawable(bytes(raw), bytes(raw), at))
+        list_row(Drawable(bytes(raw[:-1]), bytes(raw[:-1]), at))
 
 
 # ---- many geometries
 
 
-# offsets with room for 65,535 pointers each
-MODELS, GEOMETRIES = 0x10000, 0x90000
+# where the pointers of long rows begin, behind all blocks
+POINTERS = 0x1000
 
 
-def many(models, geometries, vertex_block=0, index_block=0, tail=()):
-    """A head of blocks; the pointers of models stand at MODELS, those of geometries at GEOMETRIES, all the same. `tail` are further models."""
-    w = Writer()
-    w.put("header", bytes(8))
+def many(models, geometries, vertex_block=0, index_block=0, mapping=0, tail=(), w=None):
+    """The same model so many times, each with the same geometry so many times. `tail` makes further models."""
+    w = w or Writer()
     geometry = w.geometry(vertex_block, index_block)
-    model = w.model(SYSTEM + GEOMETRIES, geometries)
-    tail = [make(w, geometry) for make in tail]
-    va = w.header(SYSTEM + MODELS, models + len(tail))
-    runs = [(MODELS, 8, models, model), (GEOMETRIES, 8, geometries, geometry)]
-    runs += [(MODELS + 8 * (models + i), 8, 1, address) for i, address in enumerate(tail)]
+    behind = POINTERS + 8 * (models + len(tail))
+    model = w.model(SYSTEM + behind, geometries, mapping)
+    runs = [(POINTERS, 8, models, model), (behind, 8, geometries, geometry)]
+    runs += [(POINTERS + 8 * (models + i), 8, 1, make(w, geometry)) for i, make in enumerate(tail)]
+    va = w.header(SYSTEM + POINTERS, models + len(tail))
     return bytes(w.sections["system"]), runs, va
 
 
@@ -561,48 +552,48 @@ def many_rows():
         head, runs, va = many(models, geometries)
         for room in [0, LONG]:
             assert " refused 5 needed 0" in long_row(head, runs, va, room)
-    one = lambda w, geometry: w.model([geometry])
-    none = lambda w, geometry: w.model([0, 0])
-    bad = lambda w, geometry: w.model([0x40000000])
-    for tail, check in [([one], 5), ([none], 7), ([none, none, one], 5), ([bad], 5), ([none, bad], 5), ([lambda w, g: 1], 3), ([lambda w, g: w.model(1, 1)], 4)]:
+    tail_rows()
+    # nulls before each, and in front of the first two
+    for step, start in [(16, POINTERS), (16, POINTERS + 8), (24, POINTERS + 16)]:
+        w = Writer()
+        geometry = w.geometry()
+        va = w.header([w.model(SYSTEM + POINTERS, 65535)])
+        head, last = bytes(w.sections["system"]), start + step * 16384
+        assert " refused 7" in long_row(head, [(start, step, 16384, geometry)], va, 100)
+        assert " refused 5" in long_row(head, [(start, step, 16385, geometry)], va, 100)
+        assert " refused 5" in long_row(head, [(start, step, 16384, geometry), (last, 8, 1, 0x40000000)], va, 100)
+
+
+def tail_rows():
+    """What stands behind 16,384 geometries: more of them, none, and what does not resolve."""
+    one, none, bad = lambda w, geometry: w.model([geometry]), lambda w, geometry: w.model([0, 0]), lambda w, geometry: w.model([0x40000000])
+    no_model, no_list = lambda w, geometry: 1, lambda w, geometry: w.model(1, 1)
+    for tail, check in [([one], 5), ([none], 7), ([none, none, one], 5), ([bad], 5), ([none, bad], 5), ([no_model], 3), ([no_list], 4)]:
         for models, geometries in [(1, 16384), (128, 128)]:
             head, runs, va = many(models, geometries, tail=tail)
             assert " refused %d" % check in long_row(head, runs, va, 100)
-    # the last of the 16,384 does not resolve: 6
+    # the last of the 16,384 does not resolve
     head, runs, va = many(1, 16383, tail=[bad])
     assert " refused 6" in long_row(head, runs, va, 100)
-    # nulls between, and before the first
-    for count, expected in [(16384, "7"), (16385, "5")]:
-        for step, start in [(16, GEOMETRIES), (16, GEOMETRIES + 8), (24, GEOMETRIES + 16)]:
-            w = Writer()
-            geometry = w.geometry()
-            va = w.header([w.model(SYSTEM + GEOMETRIES, 65535)])
-            assert " refused " + expected in long_row(bytes(w.sections["system"]), [(start, step, count, geometry)], va, 100)
-            # the one behind the last that may be read does not resolve
-            last = start + step * 16384
-            assert " refused 5" in long_row(bytes(w.sections["system"]), [(start, step, 16384, geometry), (last, 8, 1, 0x40000000)], va, 100)
 
 
 def enormous_rows():
     """Needed lengths of 2^32 bytes and more, by pointers that are all the same."""
     for models, geometries in [(128, 128), (1, 16384), (100, 163)]:
         w = Writer()
-        block = w.put("vertex block", legacy_block(65535, 16, SYSTEM + 1, 0, w.declaration()))
-        indices = w.index_block(500000, SYSTEM + 2, 0, 0)
-        geometry = w.geometry(block, indices)
-        model = w.model(SYSTEM + GEOMETRIES, geometries, mapping=SYSTEM + 0x100)
-        va = w.header(SYSTEM + MODELS, models)
-        runs = [(MODELS, 8, models, model), (GEOMETRIES, 8, geometries, geometry)]
-        needed = models * (12 + 2 * geometries + geometries * (20 + 22 + 13 + 65535 * 16 + 10 + 4 * 500000))
-        assert needed > 1 << 35
+        block = w.put("vertex block", legacy_block(65535, 8, SYSTEM + 1, 0, w.declaration()))
+        head, runs, va = many(models, geometries, block, w.index_block(250000, SYSTEM + 2), SYSTEM + 0x100, w=w)
+        needed = models * (12 + 2 * geometries + geometries * (20 + 22 + 13 + 65535 * 8 + 10 + 4 * 250000))
+        assert needed > 1 << 34
         for room in [0, LONG]:
-            assert " refused 7 needed" + hexed(needed) in long_row(bytes(w.sections["system"]), runs, va, room)
-    # models without geometries but with a mapping: exactly 2^32, a little less, a little more, and many times that
+            assert " refused 7 needed" + hexed(needed) in long_row(head, runs, va, room)
+    # models without geometries but with a mapping: exactly 2^32, a little less, a little more, and twice that
     for models, count in [(32768, 65530), (32767, 65530), (32768, 65531), (65535, 65535)]:
         w = Writer()
-        model = w.model(0, count, mapping=SYSTEM + 0x30000)
-        va = w.header(SYSTEM + MODELS, models)
-        assert " refused 7 needed" + hexed(models * (12 + 2 * count)) in long_row(bytes(w.sections["system"]), [(MODELS, 8, models, model)], va, LONG)
+        model = w.model(0, count, mapping=SYSTEM + 0x2000)
+        va = w.header(SYSTEM + POINTERS, models)
+        line = long_row(bytes(w.sections["system"]), [(POINTERS, 8, models, model)], va, LONG)
+        assert " refused 7 needed" + hexed(models * (12 + 2 * count)) in line
 
 
 # ---- random drawables
@@ -669,9 +660,9 @@ def random_rows():
         drawable = random_drawable(pick)
         for _ in range(pick.choice([0, 0, 1, 1, 2, 5])):
             damage(pick, drawable)
-        drawable = (bytes(drawable[0]), bytes(drawable[1]), drawable[2])
-        needed = length_of(drawable)
-        if len(drawable[0]) + len(drawable[1]) <= ROW and needed < ROOM:
+        drawable = Drawable(bytes(drawable[0]), bytes(drawable[1]), drawable[2])
+        needed = read(drawable).needed
+        if len(drawable.system) + len(drawable.graphics) <= ROW and needed < ROOM:
             room = pick.choice([needed, needed, needed + 3, needed + 3, max(needed - 1, 0), 0, ROOM])
             list_row(drawable, room)
             made += 1
@@ -686,15 +677,18 @@ def ask_oracle():
     if not shutil.which("cargo") or not os.path.isdir(original):
         print("the oracle was not asked: no cargo, or no original Rust")
         return
-    cases = [(key, expected) for key, expected in asked_of_oracle.items() if expected is not None]
-    data = b"".join(struct.pack("<3Q", len(system), len(graphics), va) + system + graphics for (system, graphics, va), _ in cases)
+    cases = [drawable for drawable in drawables if read(drawable).check not in (1, 5) and read(drawable).needed < LIMIT]
+    data = b"".join(struct.pack("<3Q", len(system), len(graphics), va) + system + graphics for system, graphics, va in cases)
     command = ["cargo", "run", "--release", "--offline", "--quiet", "--manifest-path", "rust/oracle/Cargo.toml"]
-    found = subprocess.run(command, input=data, stdout=subprocess.PIPE, check=True, env={**os.environ, "RAGE_FORMATS": original}).stdout.decode().split("\n")[:-1]
+    run = subprocess.run(command, input=data, stdout=subprocess.PIPE, check=True, env={**os.environ, "RAGE_FORMATS": original})
+    found = run.stdout.decode().split("\n")[:-1]
     assert len(found) == len(cases)
-    for ((system, graphics, va), expected), said in zip(cases, found):
+    for drawable, said in zip(cases, found):
+        check, listed, _ = read(drawable)
+        expected = "refused %d" % check if check else "list " + b"".join(listed).hex()
         if said != expected:
-            raise SystemExit("the oracle differs: system %s graphics %s address %x\nhere %s\noracle %s" % (system.hex(), graphics.hex(), va, expected, said))
-    print("the oracle agrees on %d drawables of %d" % (len(cases), len(asked_of_oracle)))
+            raise SystemExit("the oracle differs: system %s graphics %s address %x\nhere %s\noracle %s" % (drawable.system.hex(), drawable.graphics.hex(), drawable.va, expected, said))
+    print("the oracle agrees on %d of %d drawables; the others have more geometries or bytes than it is asked about" % (len(cases), len(drawables)))
 
 
 vector_rows()
@@ -703,6 +697,7 @@ null_rows()
 number_rows()
 model_refusal_rows()
 geometry_refusal_rows()
+binding_rows()
 stream_rows()
 stream_end_rows()
 vertex_count_rows()

@@ -15,15 +15,15 @@ pub fn list_buffer() -> [u8; 4096]
     b
 }
 
-fn zeros() -> [u8; 1310720]
-    ensures { λ r. ⌜ length r ≡ 1310720 ⌝ }
+fn zeros() -> [u8; 589824]
+    ensures { λ r. ⌜ length r ≡ 589824 ⌝ }
 {
-    [0; 1310720]
+    [0; 589824]
 }
 
 // The same, for 16,384 geometries.
-pub fn long_list_buffer() -> [u8; 1310720]
-    ensures { λ r. ⌜ length r ≡ 1310720 ⌝ }
+pub fn long_list_buffer() -> [u8; 589824]
+    ensures { λ r. ⌜ length r ≡ 589824 ⌝ }
 {
     let mut b = zeros();
     testing::fill(&mut b, 129);
@@ -31,8 +31,8 @@ pub fn long_list_buffer() -> [u8; 1310720]
 }
 
 // A section made of a row's bytes: first `runs` runs, then how the section begins. The rest of it is zeros.
-pub fn long_section(data: &[u8], runs: usize) -> [u8; 1310720]
-    ensures { λ r. ⌜ length r ≡ 1310720 ⌝ }
+pub fn long_section(data: &[u8], runs: usize) -> [u8; 589824]
+    ensures { λ r. ⌜ length r ≡ 589824 ⌝ }
 {
     let mut b = zeros();
     if runs < 100 {

@@ -58,7 +58,7 @@ pub fn list_row(row: Row, data: &[u8]) {
     answered(answer, &list);
 }
 
-// A system section of a bytes, at most 1,310,720, made by e runs, and an empty graphics section.
+// A system section of a bytes, at most 589,824, made by e runs, and an empty graphics section.
 pub fn long_row(row: Row, data: &[u8]) {
     let section = long_section(data, row.e as usize);
     text(b"long");
@@ -70,4 +70,17 @@ fn long_list(system: &[u8], row: Row) {
     let mut list = long_list_buffer();
     let answer = list_into(system, first(system, 0), row, &mut list);
     answered(answer, &list);
+}
+
+// bone_index and is_skinned, of the binding a.
+pub fn binding_row(row: Row) {
+    let binding = (row.a % 4294967296) as u32;
+    text(b"binding");
+    numbers(row, 1);
+    number(halls::bone_index(binding) as u64);
+    if halls::is_skinned(binding) {
+        text(b" skinned\n");
+    } else {
+        text(b" rigid\n");
+    }
 }

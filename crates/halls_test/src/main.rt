@@ -14,6 +14,7 @@ fn run(row: Row, data: &[u8]) {
     match kind {
         0 => drawables::list_row(row, data),
         1 => drawables::long_row(row, data),
+        2 => drawables::binding_row(row),
         _ => testing::text(b"unknown row\n"),
     }
 }

@@ -5,4 +5,4 @@ use Rattle.halls_test.proofs.buffers.zeros.Statement.{statement}
 use Rattle.halls_test.proofs.buffers.zeros.Tie as tie
 
 pub zeros-spec : {M : Type 1} → statement M
-zeros-spec = tie.close (tie.spec (λ c. length-replicate {A = ℕ} 1310720 0))
+zeros-spec = tie.close (tie.spec (λ c. length-replicate {A = ℕ} 589824 0))
