@@ -255,7 +255,7 @@ class Writer:
 NAMES = ["header", "models", "model", "geometries", "mapping", "geometry", "vertex block", "declaration", "data", "index block", "indices"]
 
 
-def triangle(w, shader=0):
+def triangle(w):
     """The geometry of the test vector: three Float3 positions, three indices."""
     vertex_block = w.put("vertex block", legacy_block(12, 3, w.data(), 0, w.declaration()))
     return w.geometry(vertex_block, w.index_block(3, w.numbers("indices", "H", [0, 1, 2])))
@@ -334,12 +334,10 @@ def number_rows():
     for binding, mask in [(0, 0), (0xFFFFFFFF, 0xFFFF), (0x80000001, 0x8001)]:
         w = Writer()
         list_row(w.drawable(w.header([w.model([], binding=binding, mask=mask)])))
-    for indices, triangles, vertices, stride in [(0, 0, 0, 0), (U64 >> 32, 1, 2, 3), (1, 2, 3, 65535)]:
+    # indices, triangles, vertices, stride
+    for numbers in [(0, 0, 0, 0), (0, 1, 2, 3), (1, 2, 3, 65535), (0xFFFFFFFF, 0xFFFFFFFE, 65535, 65534)]:
         w = Writer()
-        numbers = (indices & 0xFFFFFFFF, triangles, vertices, stride)
-        list_row(one_geometry(w, w.geometry(0, 0, *numbers)))
-    w = Writer()
-    list_row(one_geometry(w, w.geometry(0, 0, 0xFFFFFFFF, 0xFFFFFFFE, 65535, 65534), [65535]))
+        list_row(one_geometry(w, w.geometry(0, 0, *numbers), [65535 - numbers[2]]))
     # the geometry's numbers are not the buffers'
     w = Writer()
     vertex_block = w.put("vertex block", legacy_block(12, 3, w.data(), 0, w.declaration(0x81828384, 0x8586, 0x87, 0x88, 0x898A8B8C8D8E8F90)))
