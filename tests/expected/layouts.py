@@ -9,23 +9,16 @@ was never rounded before, and NaNs are handled by hand."""
 import random
 import struct
 
-U64 = 1 << 64
-SYSTEM, GRAPHICS = 0x50000000, 0x60000000
+from blocks import LAYOUTS, declaration_bytes, declaration_fields, field, find_buffer, gen9_block, legacy_block
+from rows import GRAPHICS, SYSTEM, U64, checksum, hexed, packed_with, pattern, store
+
 rows, lines = [], []
 
 
 def row(kind, numbers, line, data=b""):
     assert len(data) <= 512
-    rows.append(struct.pack("<7Q", kind, *numbers, *[0] * (5 - len(numbers)), len(data)) + data)
+    rows.append(packed_with(kind, numbers, data))
     lines.append(line)
-
-
-def hexed(*numbers):
-    return "".join(" %x" % n for n in numbers)
-
-
-def pattern(count, seed):
-    return bytes((i * 167 + i // 251 + seed) % 256 for i in range(count))
 
 
 # ---- types and declarations
@@ -106,19 +99,6 @@ def declaration_rows():
         row(7, [stride], "position_only" + hexed(stride) + ":" + hexed(1, stride, 0, 1, 6))
 
 
-def field(data, at, width):
-    """A field that does not end inside the data is 0, as in the crate `sections`."""
-    return int.from_bytes(data[at : at + width], "little") if at + width <= len(data) else 0
-
-
-def declaration_fields(data, at):
-    return [field(data, at, 4), field(data, at + 4, 2), field(data, at + 6, 1), field(data, at + 7, 1), field(data, at + 8, 8)]
-
-
-def declaration_bytes(flags, stride, unknown, count, types):
-    return struct.pack("<IHBBQ", flags, stride, unknown, count, types)
-
-
 def stored_rows():
     for size in [0, 1, 15, 16, 17, 40]:
         data = pattern(size, 129)
@@ -140,67 +120,16 @@ def stored_rows():
 # ---- located buffers
 
 
-def resolve(sections, va, count):
-    """Document 01: bits 30 and 29, graphics; else bits 30 and 28, system; else nothing. Address 0 is nothing."""
-    if va == 0:
-        return None
-    if va >> 30 & 1 and va >> 29 & 1:
-        name, at = "graphics", va - GRAPHICS
-    elif va >> 30 & 1 and va >> 28 & 1:
-        name, at = "system", va - SYSTEM
-    else:
-        return None
-    return (name, at) if at + count <= len(sections[name]) else None
-
-
-def find_buffer(sections, va, inline_pointer, inline_count, inline_stride):
-    """(layout, stride, count, data pointer, info pointer, place, declaration's fields) of the first layout whose data resolves."""
-    attempts = []
-    block = resolve(sections, va, 0x80)
-    if block:
-        raw = sections[block[0]][block[1] : block[1] + 0x80]
-        stride, count, info = field(raw, 0x08, 2), field(raw, 0x18, 4), field(raw, 0x30, 8)
-        attempts.append(("Legacy 0", stride, count, field(raw, 0x10, 8), info))
-        attempts.append(("LegacyData2 1", stride, count, field(raw, 0x20, 8), info))
-        attempts.append(("Gen9 2", field(raw, 0x0C, 2), field(raw, 0x08, 4), field(raw, 0x18, 8), 0))
-    attempts.append(("GeometryInline 3", inline_stride, inline_count, inline_pointer, 0))
-    for layout, stride, count, pointer, info in attempts:
-        place = resolve(sections, pointer, count * stride) if pointer and count and stride else None
-        if place:
-            stored = resolve(sections, info, 16) if info else None
-            fields = declaration_fields(sections[stored[0]], stored[1]) if stored else None
-            return layout, stride, count, pointer, info, place, fields
-    return None
-
-
 def buffer_row(system, graphics, va, pointer=0, count=0, stride=0):
     found = find_buffer({"system": system, "graphics": graphics}, va, pointer, count, stride)
     if found:
         layout, found_stride, found_count, found_pointer, info, place, fields = found
-        line = " " + layout + hexed(found_stride, found_count, found_pointer, info) + " %s %x" % place
+        line = " " + LAYOUTS[layout] + hexed(layout, found_stride, found_count, found_pointer, info) + " %s %x" % place
         line += hexed(*fields) if fields else " absent"
     else:
         line = " not found"
     asked = [len(system), va, pointer, count, stride]
     row(8, asked, "buffer" + hexed(*asked) + ":" + line, system + graphics)
-
-
-def legacy_block(stride=0, count=0, first=0, second=0, info=0):
-    raw = bytearray(0x80)
-    struct.pack_into("<H", raw, 0x08, stride)
-    struct.pack_into("<I", raw, 0x18, count)
-    struct.pack_into("<Q", raw, 0x10, first)
-    struct.pack_into("<Q", raw, 0x20, second)
-    struct.pack_into("<Q", raw, 0x30, info)
-    return bytes(raw)
-
-
-def gen9_block(stride=0, count=0, pointer=0, info=0, first=0, second=0):
-    raw = bytearray(legacy_block(0, 0, first, second, info))
-    struct.pack_into("<I", raw, 0x08, count)
-    struct.pack_into("<H", raw, 0x0C, stride)
-    struct.pack_into("<Q", raw, 0x18, pointer)
-    return bytes(raw)
 
 
 # Behind a block of 0x80 bytes the system section has a declaration at 0x80 and 24 bytes at 0x90; the graphics section has a
@@ -483,13 +412,6 @@ def special_rows():
 # ---- unified vertices
 
 
-def checksum(data):
-    total = 0
-    for b in data:
-        total = (total * 257 + b) % ((1 << 55) - 55)
-    return total
-
-
 def unified_vertex(data, base, flags, types):
     """84 bytes: the Rust's fields in order, each with its default."""
     position, normal, tangent, weights = [0] * 3, [0, 0, ONE], [ONE, 0, 0, ONE], [0] * 4
@@ -655,8 +577,4 @@ attribute_rows()
 unified_rows()
 encoding_rows()
 random_rows()
-with open("crates/layouts_test/stdin", "wb") as out:
-    out.write(b"".join(rows))
-with open("crates/layouts_test/stdout", "w") as out:
-    out.write("".join(line + "\n" for line in lines))
-print("%d rows" % len(rows))
+store("layouts_test", rows, lines)

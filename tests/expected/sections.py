@@ -6,54 +6,17 @@ It writes crates/sections_test/stdin, rows of six little-endian u64 (what is cal
 crates/sections_test/stdout. Sections are modelled as byte strings, and numbers as whole numbers of any size."""
 import struct
 
-U64 = 1 << 64
-SYSTEM, GRAPHICS = 0x50000000, 0x60000000
+from rows import GRAPHICS, SYSTEM, U64, checksum, cut, hexed, locate, packed, pattern, store
+
 rows, lines = [], []
 
 
 def row(kind, numbers, line):
-    rows.append(struct.pack("<6Q", kind, *numbers, *[0] * (5 - len(numbers))))
+    rows.append(packed(kind, numbers))
     lines.append(line)
 
 
-def hexed(*numbers):
-    return "".join(" %x" % n for n in numbers)
-
-
-def pattern(count, seed):
-    return bytes((i * 167 + i // 251 + seed) % 256 for i in range(count))
-
-
-def checksum(data):
-    total = 0
-    for b in data:
-        total = (total * 257 + b) % ((1 << 55) - 55)
-    return total
-
-
 # ---- addresses
-
-
-def section_of(va):
-    """Document 01: bits 30 and 29, graphics; else bits 30 and 28, system; else nothing. Address 0 is nothing."""
-    if va == 0:
-        return None
-    if va >> 30 & 1 and va >> 29 & 1:
-        return ("graphics", va - GRAPHICS)
-    if va >> 30 & 1 and va >> 28 & 1:
-        return ("system", va - SYSTEM)
-    return None
-
-
-def cut(data, at, count):
-    return data[at : at + count] if at + count <= len(data) else None
-
-
-def locate(sections, va, count):
-    found = section_of(va)
-    if found and cut(sections[found[0]], found[1], count) is not None:
-        return found
-    return None
 
 
 def placed(found):
@@ -240,8 +203,4 @@ list_rows()
 header_rows()
 field_rows()
 edit_rows()
-with open("crates/sections_test/stdin", "wb") as out:
-    out.write(b"".join(rows))
-with open("crates/sections_test/stdout", "w") as out:
-    out.write("".join(line + "\n" for line in lines))
-print("%d rows" % len(rows))
+store("sections_test", rows, lines)

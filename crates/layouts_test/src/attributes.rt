@@ -1,12 +1,12 @@
 // Rows about the attributes of one vertex.
-use crate::Row;
 use crate::declarations::component;
 use crate::declarations::declared;
-use crate::print::number;
-use crate::print::numbers;
-use crate::print::text;
 use crate::values::value;
 use crate::values::views;
+use testing::Row;
+use testing::number;
+use testing::numbers;
+use testing::text;
 use vertices::VertexAttribute;
 use vertices::VertexAttributes;
 

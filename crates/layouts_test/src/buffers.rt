@@ -1,65 +1,12 @@
-// Parts of what a row carries, and outputs.
+// Outputs.
 ghost use mathlib.Core.Path.{_≡_};
-ghost use Prim.Native.Nat.{_≤_, _<_};
 ghost use lib.ListN.{length};
-use libc::STDIN_FILENO;
 
-// The first n bytes, or all of them where there are fewer.
-pub fn first<'a>(b: &'a [u8], n: usize) -> &'a [u8] {
-    if n < b.len() {
-        return &b[..n];
-    }
-    b
-}
-
-// The bytes from n on, or all of them where there are fewer.
-pub fn rest<'a>(b: &'a [u8], n: usize) -> &'a [u8] {
-    if n < b.len() {
-        return &b[n..];
-    }
-    first(b, 0)
-}
-
-// Fills the first n bytes from standard input, where there are so many.
-pub fn read_first(b: &mut [u8], n: usize) {
-    if n <= b.len() {
-        io::read_full(STDIN_FILENO, &mut b[..n]);
-    }
-}
-
-fn fill(b: &mut [u8])
-    requires { ⌜ length (now b) ≤ 65536 ⌝ }
-    ensures { λ _. ⌜ length (now (b .exit)) ≡ length (now (b .entry)) ⌝ }
-{
-    let mut i = 0;
-    while i < b.len() {
-        b[i] = ((i * 167 + i / 251 + 129) % 256) as u8;
-        i += 1;
-    }
-}
-
-// An output before it is written to; bytes that do not repeat after 256 of them.
+// An output before it is written to.
 pub fn output() -> [u8; 512]
     ensures { λ r. ⌜ length r ≡ 512 ⌝ }
 {
     let mut b = [0u8; 512];
-    fill(&mut b);
+    testing::fill(&mut b, 129);
     b
-}
-
-fn wide(b: u8) -> u64
-    ensures { λ r. ⌜ (r ≡ b) × (r < 256) ⌝ }
-{
-    b as u64
-}
-
-// The bytes as the digits of a number in base 257, modulo the prime 2^55 - 55.
-pub fn checksum(b: &[u8]) -> u64 {
-    let mut sum: u64 = 0;
-    let mut i = 0;
-    while i < b.len() {
-        sum = (sum * 257 + wide(b[i])) % 36028797018963913;
-        i += 1;
-    }
-    sum
 }

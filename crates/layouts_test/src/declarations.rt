@@ -1,12 +1,12 @@
 // Rows about component types, semantics and declarations.
-use crate::Row;
-use crate::buffers::first;
 use crate::names;
-use crate::print::bytes;
-use crate::print::done;
-use crate::print::number;
-use crate::print::numbers;
-use crate::print::text;
+use testing::Row;
+use testing::bytes;
+use testing::done;
+use testing::first;
+use testing::number;
+use testing::numbers;
+use testing::text;
 use vertices::ComponentList;
 use vertices::FoundComponent;
 use vertices::VertexComponent;

@@ -1,15 +1,15 @@
 // Rows about encoding values.
-use crate::Row;
 use crate::attributes::attributes;
-use crate::buffers::first;
 use crate::buffers::output;
 use crate::declarations::declared;
 use crate::names;
-use crate::print::bytes;
-use crate::print::done;
-use crate::print::numbers;
-use crate::print::text;
 use crate::values::value_in;
+use testing::Row;
+use testing::bytes;
+use testing::done;
+use testing::first;
+use testing::numbers;
+use testing::text;
 use vertices::VertexAttributeValue;
 use vertices::VertexComponentType;
 

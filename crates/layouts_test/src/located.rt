@@ -1,12 +1,12 @@
 // Rows about locating the vertices of a geometry.
-use crate::Row;
-use crate::buffers::first;
-use crate::buffers::rest;
 use crate::declarations::declaration;
-use crate::print::number;
-use crate::print::numbers;
-use crate::print::text;
 use sections::Located;
+use testing::Row;
+use testing::first;
+use testing::number;
+use testing::numbers;
+use testing::rest;
+use testing::text;
 use vertices::FoundBuffer;
 use vertices::StoredDeclaration;
 use vertices::VertexBuffer;

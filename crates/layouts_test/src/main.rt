@@ -6,23 +6,14 @@ mod declarations;
 mod encoding;
 mod located;
 mod names;
-mod print;
 mod unified;
 mod values;
 
-use buffers::first;
-use buffers::read_first;
 use libc::STDIN_FILENO;
-
-// What is called, and the numbers that it is called with.
-pub struct Row {
-    pub kind: u64,
-    pub a: u64,
-    pub b: u64,
-    pub c: u64,
-    pub d: u64,
-    pub e: u64,
-}
+use testing::Row;
+use testing::first;
+use testing::read_first;
+use testing::row_in;
 
 fn run(row: Row, data: &[u8]) {
     let kind = row.kind;
@@ -40,7 +31,7 @@ fn run(row: Row, data: &[u8]) {
         10 => attributes::attributes_row(row, data),
         11 => unified::unify_row(row, data),
         12 => encoding::encode_row(row, data),
-        _ => print::text(b"unknown row\n"),
+        _ => testing::text(b"unknown row\n"),
     }
 }
 
@@ -54,15 +45,7 @@ fn run_one() -> bool {
     let count = sections::u64_le(&raw, 48) as usize;
     let mut data = [0u8; 512];
     read_first(&mut data, count);
-    let row = Row {
-        kind: sections::u64_le(&raw, 0),
-        a: sections::u64_le(&raw, 8),
-        b: sections::u64_le(&raw, 16),
-        c: sections::u64_le(&raw, 24),
-        d: sections::u64_le(&raw, 32),
-        e: sections::u64_le(&raw, 40),
-    };
-    run(row, first(&data, count));
+    run(row_in(&raw), first(&data, count));
     true
 }
 

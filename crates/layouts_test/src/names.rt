@@ -1,6 +1,6 @@
 // Names of types and semantics.
-use crate::print::number;
-use crate::print::text;
+use testing::number;
+use testing::text;
 use vertices::VertexComponentType;
 use vertices::VertexSemantic;
 

@@ -1,13 +1,13 @@
 // Rows about unified vertices.
-use crate::Row;
-use crate::buffers::checksum;
-use crate::buffers::first;
 use crate::buffers::output;
 use crate::declarations::declared;
-use crate::print::bytes;
-use crate::print::number;
-use crate::print::numbers;
-use crate::print::text;
+use testing::Row;
+use testing::bytes;
+use testing::checksum;
+use testing::first;
+use testing::number;
+use testing::numbers;
+use testing::text;
 use vertices::UnifyAnswer;
 
 fn answer(a: UnifyAnswer) {

@@ -1,9 +1,9 @@
 // Rows about attribute values, seen as vectors and colours.
-use crate::Row;
 use crate::names;
-use crate::print::number;
-use crate::print::numbers;
-use crate::print::text;
+use testing::Row;
+use testing::number;
+use testing::numbers;
+use testing::text;
 use vertices::Bytes4;
 use vertices::F32;
 use vertices::Vec2;

@@ -1,12 +1,12 @@
 // Rows about edits of a buffer of 16,640 bytes, of which the checksum afterwards is printed.
-use crate::Row;
-use crate::buffers::checksum;
-use crate::buffers::first;
 use crate::buffers::long_buffer;
-use crate::lookup::numbers;
-use crate::print::done;
-use crate::print::number;
-use crate::print::text;
+use testing::Row;
+use testing::checksum;
+use testing::done;
+use testing::first;
+use testing::number;
+use testing::numbers;
+use testing::text;
 
 fn finish(buffer: &[u8], answer: bool) {
     done(answer);

@@ -1,12 +1,12 @@
 // Rows about little-endian fields: of width a, in a buffer of b bytes, at most 64, at offset c.
-use crate::Row;
-use crate::buffers::first;
 use crate::buffers::section;
-use crate::lookup::numbers;
-use crate::print::bytes;
-use crate::print::done;
-use crate::print::number;
-use crate::print::text;
+use testing::Row;
+use testing::bytes;
+use testing::done;
+use testing::first;
+use testing::number;
+use testing::numbers;
+use testing::text;
 
 fn read(b: &[u8], width: u64, off: usize) -> u64 {
     match width {

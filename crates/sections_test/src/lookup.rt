@@ -1,9 +1,10 @@
 // Rows about addresses in two sections.
-use crate::Row;
-use crate::buffers::checksum;
-use crate::print::number;
-use crate::print::text;
 use sections::Located;
+use testing::Row;
+use testing::checksum;
+use testing::number;
+use testing::numbers;
+use testing::text;
 
 pub fn place(p: Located) {
     match p {
@@ -17,22 +18,6 @@ pub fn place(p: Located) {
         }
         Located::Nothing => text(b" nothing"),
     }
-}
-
-// The numbers of a row that its call takes.
-pub fn numbers(row: Row, count: u8) {
-    number(row.a);
-    number(row.b);
-    if 2 < count {
-        number(row.c);
-    }
-    if 3 < count {
-        number(row.d);
-    }
-    if 4 < count {
-        number(row.e);
-    }
-    text(b":");
 }
 
 // locate, at address c, of d bytes.

@@ -5,21 +5,12 @@ mod edits;
 mod fields;
 mod lists;
 mod lookup;
-mod print;
 
-use buffers::first;
 use buffers::section_with_gap;
 use libc::STDIN_FILENO;
-
-// What is called, and the numbers that it is called with.
-pub struct Row {
-    pub kind: u64,
-    pub a: u64,
-    pub b: u64,
-    pub c: u64,
-    pub d: u64,
-    pub e: u64,
-}
+use testing::Row;
+use testing::first;
+use testing::row_in;
 
 fn run_on_sections<'a>(system: &'a [u8], graphics: &'a [u8], row: Row) {
     let kind = row.kind;
@@ -54,7 +45,7 @@ fn run(row: Row) {
         8 => edits::copy_within_row(row),
         9 => edits::copy_into_row(row),
         10 => edits::zero_row(row),
-        _ => print::text(b"unknown row\n"),
+        _ => testing::text(b"unknown row\n"),
     }
 }
 
@@ -64,14 +55,7 @@ fn run_one() -> bool {
     if io::read_full(STDIN_FILENO, &mut raw) < 48 {
         return false;
     }
-    run(Row {
-        kind: sections::u64_le(&raw, 0),
-        a: sections::u64_le(&raw, 8),
-        b: sections::u64_le(&raw, 16),
-        c: sections::u64_le(&raw, 24),
-        d: sections::u64_le(&raw, 32),
-        e: sections::u64_le(&raw, 40),
-    });
+    run(row_in(&raw));
     true
 }
 

@@ -1,0 +1,42 @@
+// Reads the drawables of standard input through the crate `halls` and prints a line for each: what was asked, in hexadecimal, what was
+// answered, the checksum of the list's buffer, and a short list's bytes. tests/expected/halls.py makes both the drawables and the lines.
+mod buffers;
+mod drawables;
+
+use libc::STDIN_FILENO;
+use testing::Row;
+use testing::first;
+use testing::read_first;
+use testing::row_in;
+
+fn run(row: Row, data: &[u8]) {
+    let kind = row.kind;
+    match kind {
+        0 => drawables::list_row(row, data),
+        1 => drawables::long_row(row, data),
+        2 => drawables::binding_row(row),
+        _ => testing::text(b"unknown row\n"),
+    }
+}
+
+// Reads a row and runs it: seven little-endian numbers, the last of which is how many bytes follow, at most 4,096.
+// Answers false at the end of the input.
+fn run_one() -> bool {
+    let mut raw = [0u8; 56];
+    if io::read_full(STDIN_FILENO, &mut raw) < 56 {
+        return false;
+    }
+    let count = sections::u64_le(&raw, 48) as usize;
+    let mut data = [0u8; 4096];
+    read_first(&mut data, count);
+    run(row_in(&raw), first(&data, count));
+    true
+}
+
+// The count falls at each turn, since nothing says that the input ends.
+fn main() {
+    let mut turns = u64::MAX;
+    while turns > 0 && run_one() {
+        turns -= 1;
+    }
+}
