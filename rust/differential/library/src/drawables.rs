@@ -111,13 +111,19 @@ struct Builder<'a> {
     odds: usize,
     /// Whether data and indices are about as long as the blocks that copies go by.
     long: bool,
+    /// Whether a block lies before what it points to, so that a cut takes the inner parts first.
+    outer_first: bool,
     sections: [Vec<u8>; 2],
     placed: Vec<u64>,
 }
 
+/// Where a block will lie, if that is settled before its contents are.
+struct Slot(Option<u64>);
+
 impl<'a> Builder<'a> {
     fn new(random: &'a mut Random, odds: usize, long: bool) -> Self {
-        Self { random, odds, long, sections: [Vec::new(), Vec::new()], placed: Vec::new() }
+        let outer_first = random.percent(60);
+        Self { random, odds, long, outer_first, sections: [Vec::new(), Vec::new()], placed: Vec::new() }
     }
 
     fn odd(&mut self) -> bool {
@@ -134,6 +140,18 @@ impl<'a> Builder<'a> {
         let address = [SYSTEM, GRAPHICS][graphics] + section.len() as u64;
         section.extend(bytes);
         self.placed.push(address);
+        address
+    }
+
+    fn slot(&mut self, length: usize) -> Slot {
+        Slot(self.outer_first.then(|| self.place(&vec![0xDD; length])))
+    }
+
+    fn settle(&mut self, slot: Slot, bytes: &[u8]) -> u64 {
+        let Some(address) = slot.0 else { return self.place(bytes) };
+        let graphics = address >= GRAPHICS;
+        let at = (address - [SYSTEM, GRAPHICS][graphics as usize]) as usize;
+        self.sections[graphics as usize][at..at + bytes.len()].copy_from_slice(bytes);
         address
     }
 
@@ -183,7 +201,8 @@ impl<'a> Builder<'a> {
         let noise = self.random.below(40);
         let bytes = self.random.bytes(noise);
         self.place(&bytes);
-        let models = self.random.pick(&[0, 1, 1, 1, 2, 2, 3, 5]);
+        let models = self.random.pick(&[0, 1, 1, 1, 1, 1, 2, 2, 2, 3, 3, 5]);
+        let slots = (self.slot(16), self.slot(8 * models));
         let mut pointers: Vec<u64> = Vec::new();
         for _ in 0..models {
             let alias = !pointers.is_empty() && self.random.percent(8);
@@ -192,14 +211,14 @@ impl<'a> Builder<'a> {
             let pointer = if null { 0 } else { self.pointer(model) };
             pointers.push(pointer);
         }
-        let va = self.header(&pointers);
+        let va = self.header(&pointers, slots);
         let [system, graphics] = self.sections;
         Drawable { system, graphics, va }
     }
 
-    fn header(&mut self, models: &[u64]) -> u64 {
+    fn header(&mut self, models: &[u64], slots: (Slot, Slot)) -> u64 {
         let list: Vec<u8> = models.iter().flat_map(|pointer| pointer.to_le_bytes()).collect();
-        let pointer = if models.is_empty() { 0 } else { self.place(&list) };
+        let pointer = if models.is_empty() { 0 } else { self.settle(slots.1, &list) };
         let pointer = self.pointer(pointer);
         let count = self.count(models.len());
         let capacity = self.random.pick(&[count, count, count, 0, 9]);
@@ -208,12 +227,13 @@ impl<'a> Builder<'a> {
         put(&mut header, 0, pointer, 8);
         put(&mut header, 8, count as u64 & 0xFFFF, 2);
         put(&mut header, 10, capacity as u64 & 0xFFFF, 2);
-        let va = self.place(&header);
+        let va = self.settle(slots.0, &header);
         self.pointer(va)
     }
 
     fn model(&mut self) -> u64 {
         let count = if self.long { 2 } else { self.random.pick(&[0, 1, 1, 2, 3, 4]) };
+        let slots = (self.slot(0x30), self.slot(8 * count));
         let mut geometries: Vec<u64> = Vec::new();
         for _ in 0..count {
             let alias = !geometries.is_empty() && self.random.percent(8);
@@ -223,7 +243,7 @@ impl<'a> Builder<'a> {
             geometries.push(pointer);
         }
         let list: Vec<u8> = geometries.iter().flat_map(|pointer| pointer.to_le_bytes()).collect();
-        let geometries = self.place(&list);
+        let geometries = self.settle(slots.1, &list);
         let ids = self.random.bytes(2 * count);
         let mapping = self.place(&ids);
         let absent = self.random.percent(10);
@@ -233,17 +253,19 @@ impl<'a> Builder<'a> {
         put(&mut block, 0x20, if absent { 0 } else { self.pointer(mapping) }, 8);
         put(&mut block, 0x28, self.random.next() & 0xFFFF_FFFF, 4);
         put(&mut block, 0x2C, self.random.next() & 0xFFFF, 2);
-        self.place(&block)
+        self.settle(slots.0, &block)
     }
 
     fn geometry(&mut self) -> u64 {
+        let slot = self.slot(0x98);
         let (flags, types) = declaration(self.random);
         let stride = self.stride(declared_size(flags, types));
         let count = self.vertices(stride);
+        let block = self.slot(0x80);
         let data = vertex_bytes(self.random, count * stride);
         let data = self.place(&data);
         let layout = self.random.below(6);
-        let vertices = self.vertex_block(layout, data, count, stride, (flags, types));
+        let vertices = self.vertex_block(block, layout, (data, count, stride), (flags, types));
         let (indices, held) = self.index_block(count);
         let mut block = self.noise(0x98);
         put(&mut block, 0x18, self.pointer(vertices), 8);
@@ -255,7 +277,7 @@ impl<'a> Builder<'a> {
         put(&mut block, 0x70, self.count(stride) as u64 & 0xFFFF, 2);
         let inline = if layout == 3 || self.random.percent(20) { data } else { 0 };
         put(&mut block, 0x78, self.pointer(inline), 8);
-        self.place(&block)
+        self.settle(slot, &block)
     }
 
     fn stride(&mut self, declared: usize) -> usize {
@@ -275,12 +297,12 @@ impl<'a> Builder<'a> {
         self.random.pick(&[0, 1, 1, 2, 3, 3, 4, 5, 8, 12])
     }
 
-    fn vertex_block(&mut self, layout: usize, data: u64, count: usize, stride: usize, declared: (u32, u64)) -> u64 {
+    fn vertex_block(&mut self, slot: Slot, layout: usize, stream: (u64, usize, usize), declared: (u32, u64)) -> u64 {
         let mut block = self.noise(0x80);
         for at in [0x10, 0x20] {
             put(&mut block, at, 0, 8);
         }
-        let (data, count, stride) = (self.pointer(data), self.count(count) as u64, self.count(stride) as u64 & 0xFFFF);
+        let (data, count, stride) = (self.pointer(stream.0), self.count(stream.1) as u64, self.count(stream.2) as u64 & 0xFFFF);
         match layout {
             3 => return self.random.pick(&[0, 0, 0x7000_0000, 0x5FFF_FFF0]),
             2 => {
@@ -302,7 +324,7 @@ impl<'a> Builder<'a> {
         }
         let info = self.declaration(declared.0, declared.1);
         put(&mut block, 0x30, info, 8);
-        self.place(&block)
+        self.settle(slot, &block)
     }
 
     fn declaration(&mut self, flags: u32, types: u64) -> u64 {
@@ -325,6 +347,7 @@ impl<'a> Builder<'a> {
         let count = if self.long { self.random.near_blocks(512, 9) } else { self.random.pick(&[0, 1, 3, 3, 6, 7, 12, 30]) };
         let form = self.random.below(8);
         let width = if form == 3 || form == 4 { 4 } else { 2 };
+        let slot = self.slot(0x60);
         let mut data = Vec::new();
         for _ in 0..count {
             let index = self.random.below(vertices.max(1)) as u64;
@@ -358,7 +381,7 @@ impl<'a> Builder<'a> {
             5 => put(&mut block, 0x18, self.pointer(data), 8),
             _ => put(&mut block, 0x10, self.pointer(data), 8),
         }
-        (self.place(&block), count)
+        (self.settle(slot, &block), count)
     }
 }
 
