@@ -149,6 +149,26 @@ pub fn compare(tally: &mut Tally, drawable: &Drawable, name: &str) {
             compare_buffer(tally, drawable, &reader, *stream, name);
         }
     }
+    for stream in other_streams(drawable, &walk) {
+        compare_buffer(tally, drawable, &reader, stream, name);
+    }
+}
+
+/// Calls that no geometry of the drawable makes: blocks anywhere, counts above 16 bits.
+fn other_streams(drawable: &Drawable, walk: &Walk) -> [Stream; 2] {
+    let random = &mut Random::new(drawable.va ^ (drawable.system.len() as u64) << 32 ^ drawable.graphics.len() as u64);
+    let mut addresses = vec![0, SYSTEM, GRAPHICS, 0x7000_0000, SYSTEM + drawable.system.len() as u64, random.next()];
+    for (base, length) in [(SYSTEM, drawable.system.len()), (GRAPHICS, drawable.graphics.len())] {
+        addresses.extend([base + random.below(length + 1) as u64, base + (random.below(length + 1) as u64 & !15)]);
+    }
+    addresses.extend(walk.streams.iter().map(|stream| stream.va));
+    let counts = [0, 1, 3, 17, 70_000, u32::MAX, random.next() as u32, drawable.system.len() as u32 / 4];
+    [(); 2].map(|_| Stream {
+        va: random.pick(&addresses),
+        inline_pointer: random.pick(&addresses),
+        inline_count: random.pick(&counts),
+        inline_stride: random.pick(&[0, 1, 4, 12, 0xFFFF]),
+    })
 }
 
 fn compare_list(tally: &mut Tally, drawable: &Drawable, lod: &DrawableLod, empty: Told, name: &str) {
