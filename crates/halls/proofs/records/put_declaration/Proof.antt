@@ -4,8 +4,8 @@ use mathlib.Core.List.{append-assoc}
 use native.Mathlib.Omega.{arith}
 use borrow.Author.Needs.{needs}
 use Rattle.sections.specs.Le.{bytes}
+use Rattle.sections.proofs.EditLaws.{edited-behind}
 use Rattle.vertices.specs.Declaration.{declarationBytes}
-use Rattle.vertices.proofs.DeclarationLaws.{edited-behind, declaration-length}
 use Rattle.halls.specs.List.{recordBytes, declarationRecord}
 use Rattle.halls.proofs.records.put_declaration.Statement.{statement}
 use Rattle.halls.proofs.records.put_declaration.Tie as tie
