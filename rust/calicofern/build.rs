@@ -14,7 +14,8 @@ const LIBRARY: &str = "exports";
 fn main() {
     println!("cargo:rerun-if-env-changed=CALICOFERN_ARCHIVE");
     let target = |key: &str| env::var(key).unwrap_or_default();
-    if target("CARGO_CFG_TARGET_ARCH") != "x86_64" || target("CARGO_CFG_TARGET_OS") != "linux" {
+    let machine = ["CARGO_CFG_TARGET_ARCH", "CARGO_CFG_TARGET_OS", "CARGO_CFG_TARGET_POINTER_WIDTH"].map(target);
+    if machine != ["x86_64", "linux", "64"] {
         stop("the proved library is machine code for Linux on x86-64, and this build is for another target");
     }
     let archive = match env::var_os("CALICOFERN_ARCHIVE") {

@@ -88,16 +88,7 @@ pub fn hall_list(system: &[u8], graphics: &[u8], va: u64, list: &mut [u8]) -> To
     let mut size = 0;
     // SAFETY: pointers and lengths of borrowed slices; `list` is an exclusive borrow and `size` a variable of this function.
     let check = unsafe {
-        calicofern_hall_list(
-            system.as_ptr(),
-            system.len(),
-            graphics.as_ptr(),
-            graphics.len(),
-            va,
-            list.as_mut_ptr(),
-            list.len(),
-            &mut size,
-        )
+        calicofern_hall_list(system.as_ptr(), system.len(), graphics.as_ptr(), graphics.len(), va, list.as_mut_ptr(), list.len(), &mut size)
     };
     Told { check, size }
 }
@@ -145,18 +136,7 @@ pub fn vertex_attributes(data: &[u8], stride: u16, count: u32, flags: u32, types
     // SAFETY: pointers and lengths of borrowed slices; `out` is an exclusive borrow and `size` a variable of this function. Stride, count and index may
     // be any numbers: the library checks them against the data's length.
     let check = unsafe {
-        calicofern_vertex_attributes(
-            data.as_ptr(),
-            data.len(),
-            stride,
-            count,
-            flags,
-            types,
-            index,
-            out.as_mut_ptr(),
-            out.len(),
-            &mut size,
-        )
+        calicofern_vertex_attributes(data.as_ptr(), data.len(), stride, count, flags, types, index, out.as_mut_ptr(), out.len(), &mut size)
     };
     Told { check, size }
 }

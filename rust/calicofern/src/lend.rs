@@ -19,7 +19,7 @@ pub fn lend(limit: usize, call: impl Fn(&mut [u8]) -> Result<usize, Refusal>) ->
     };
     let length = match usize::try_from(needed) {
         Ok(length) if length <= limit => length,
-        _ => return Err(refusal.with_lent(limit)),
+        _ => return Err(refusal.with_limit(limit)),
     };
     let mut out = Vec::new();
     out.try_reserve_exact(length).map_err(|_| refusal)?;

@@ -23,6 +23,8 @@ pub struct Refusal {
     check: u8,
     needed: u64,
     lent: u64,
+    /// Whether `lent` is a limit on what would have been allocated.
+    limit: bool,
 }
 
 impl Refusal {
@@ -63,13 +65,13 @@ impl Refusal {
         match told {
             // what was written lies in the output, so its length is a usize
             Told { check: 0, size } => Ok(size as usize),
-            Told { check, size } => Err(Refusal { check, needed: size, lent: lent as u64 }),
+            Told { check, size } => Err(Refusal { check, needed: size, lent: lent as u64, limit: false }),
         }
     }
 
-    /// The same refusal of an output that could have had so many bytes.
-    pub(crate) fn with_lent(self, lent: usize) -> Refusal {
-        Refusal { lent: lent as u64, ..self }
+    /// The same refusal where no more than so many bytes may be allocated.
+    pub(crate) fn with_limit(self, limit: usize) -> Refusal {
+        Refusal { lent: limit as u64, limit: true, ..self }
     }
 }
 
@@ -77,6 +79,7 @@ impl fmt::Display for Refusal {
     fn fmt(&self, out: &mut fmt::Formatter<'_>) -> fmt::Result {
         write!(out, "check {}: {}", self.check, self.text())?;
         match (self.needed(), self.lent()) {
+            (Some(needed), Some(limit)) if self.limit => write!(out, ": {needed} bytes are needed, and the limit is {limit}"),
             (Some(needed), Some(lent)) => write!(out, ": {needed} bytes are needed, {lent} were lent"),
             _ => Ok(()),
         }
@@ -113,6 +116,8 @@ mod tests {
         assert_eq!(refusal(7, 127, 100).to_string(), line);
         assert_eq!(refusal(7, 127, 100).needed(), Some(127));
         assert_eq!(refusal(10, 84, 0).to_string(), "check 10: the output is too short: 84 bytes are needed, 0 were lent");
+        let line = "check 7: the buffer for the list is too short: 127 bytes are needed, and the limit is 99";
+        assert_eq!(refusal(7, 127, 0).with_limit(99).to_string(), line);
         assert_eq!((refusal(6, 0, 9).needed(), refusal(6, 0, 9).lent()), (None, None));
     }
 }

@@ -39,7 +39,7 @@ fn numbers(mut arguments: Arguments) -> Result<String, Failure> {
     if !any {
         return Err(Failure::Usage("no number: give halves as 0x3c00, floats as 1.5 or 0x3fc00000".to_string()));
     }
-    Ok(table.text(""))
+    Ok(table.text())
 }
 
 /// A half and the float with its value; of a float, the half nearest to it, and the float itself.

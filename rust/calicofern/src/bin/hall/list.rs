@@ -5,7 +5,7 @@ use crate::drawable::{write, Drawable};
 use crate::failure::Failure;
 use crate::progress;
 use crate::table::{counted, grouped, Table};
-use calicofern::{Geometry, HallList, Model};
+use calicofern::{Geometry, HallList, Model, VertexDeclaration};
 
 pub fn run(mut arguments: Arguments) -> Result<String, Failure> {
     let bytes = arguments.option("--bytes")?;
@@ -20,76 +20,135 @@ pub fn run(mut arguments: Arguments) -> Result<String, Failure> {
     Ok(text)
 }
 
-/// The drawable, its models and geometries, and what disagrees.
+/// The drawable, its models and geometries, its declarations, and what disagrees.
 pub fn shown(drawable: &Drawable, hall: &HallList) -> String {
-    let system = counted(drawable.system.len() as u64, "byte", "bytes");
-    let graphics = grouped(drawable.graphics.len() as u64);
-    let mut text = format!("{}: {system} of system section, {graphics} of graphics section, read at {:#x}\n", drawable.name, drawable.at);
-    let mut disagreements = Vec::new();
-    let mut geometries = 0;
-    progress::during("comparing the counts", || {
-        for (number, model) in hall.models().enumerate() {
-            text += &model_shown(number, &model, &mut disagreements);
-            geometries += model.geometries().count() as u64;
-        }
-    });
-    let models = counted(hall.models().count() as u64, "model", "models");
-    let triangles = counted(hall.triangle_count(), "triangle", "triangles");
-    text += &format!("\n{models}, {}, {triangles}\n", counted(geometries, "geometry", "geometries"));
-    match disagreements.len() {
-        0 => text += "all counts agree\n",
-        1 => text += "1 pair of numbers disagrees:\n",
-        many => text += &format!("{many} pairs of numbers disagree:\n"),
+    let mut text = format!(
+        "{}: {} bytes of system section, {} of graphics section, read at {:#x}\n",
+        drawable.name,
+        grouped(drawable.system.len() as u64),
+        grouped(drawable.graphics.len() as u64),
+        drawable.at
+    );
+    let found = progress::during("comparing the counts", || Found::of(hall));
+    if found.models.is_empty() {
+        return text + "no models: the LOD header at this address lists none, or is not inside its section\n";
     }
-    for line in disagreements {
-        text += &format!("  ! {line}\n");
-    }
-    text
+    text += &found.models_shown();
+    text += &found.declarations_shown();
+    let models = counted(found.models.len() as u64, "model", "models");
+    let geometries = counted(found.models.iter().map(|(_, count)| *count as u64).sum(), "geometry", "geometries");
+    text += &format!("\n{models}, {geometries}, {}\n", counted(hall.triangle_count(), "triangle", "triangles"));
+    text + &found.disagreements_shown()
 }
 
-const TITLES: [&str; 10] =
-    ["", "geometry", "shader", "triangles", "indices", "found", "vertices", "found", "stride", "layout      declaration"];
+const TITLES: [&str; 11] =
+    [" ", "geometry", "shader", "triangles", "indices", "found", "vertices", "found", "stride", "layout", "declaration"];
 
-/// A model's line and the table of its geometries. `disagreements` gets a line for each pair.
-fn model_shown(number: usize, model: &Model<'_>, disagreements: &mut Vec<String>) -> String {
-    let own = model.disagreements();
-    disagreements.extend(own.iter().map(|pair| format!("model {number}: {pair}")));
-    let mark = if own.is_empty() { "" } else { "  !" };
-    let skinned = if model.is_skinned() { "skinned" } else { "not skinned" };
-    let geometries = counted(model.geometries().count() as u64, "geometry", "geometries");
-    let mut text =
-        format!("\nmodel {number}  bone {}, {skinned}, mask {:#06x}, {geometries}{mark}\n", model.bone_index(), model.render_mask_flags);
-    let mut table = Table::new(&TITLES, &["", TITLES[9]]);
-    for (place, geometry) in model.geometries().enumerate() {
-        let pairs = geometry.disagreements();
-        disagreements.extend(pairs.iter().map(|pair| format!("model {number} geometry {place}: {pair}")));
-        table.row(geometry_row(place, &geometry, !pairs.is_empty()));
-    }
-    if model.geometries().next().is_some() {
-        text += &table.text("");
-    }
-    text
+/// What was met on the way through a list.
+struct Found {
+    /// Each model's line, and how many geometries it has.
+    models: Vec<(String, usize)>,
+    /// A row for each geometry.
+    geometries: Table,
+    declarations: Vec<VertexDeclaration>,
+    disagreements: Vec<String>,
 }
 
-fn geometry_row(place: usize, geometry: &Geometry<'_>, marked: bool) -> Vec<String> {
-    let found = |number: Option<u64>| number.map_or("none".to_string(), grouped);
-    let layout = match geometry.vertex_buffer {
-        Some(vertices) => {
-            let declaration = geometry.declaration.map_or("none stored: Position Float3".to_string(), |declared| declared.to_string());
-            format!("{:<14}  {declaration}", vertices.layout)
+impl Found {
+    fn of(hall: &HallList) -> Self {
+        let geometries = Table::new(&TITLES, &[" ", "layout", "declaration"]);
+        let mut found = Found { models: Vec::new(), geometries, declarations: Vec::new(), disagreements: Vec::new() };
+        for model in hall.models() {
+            found.add(&model);
         }
-        None => "no vertices found".to_string(),
-    };
-    vec![
-        if marked { "!" } else { "" }.to_string(),
-        place.to_string(),
-        geometry.shader_id.to_string(),
-        grouped(geometry.triangles_count),
-        grouped(geometry.indices_count),
-        found(geometry.index_buffer.map(|buffer| buffer.indices().len() as u64)),
-        grouped(geometry.vertices_count),
-        found(geometry.vertex_buffer.map(|vertices| u64::from(vertices.vertex_count))),
-        geometry.vertex_stride.to_string(),
-        layout,
-    ]
+        found
+    }
+
+    fn add(&mut self, model: &Model<'_>) {
+        let number = self.models.len();
+        let own = model.disagreements();
+        self.disagreements.extend(own.iter().map(|pair| format!("model {number}: {pair}")));
+        let mut geometries = 0;
+        for geometry in model.geometries() {
+            let pairs = geometry.disagreements();
+            self.disagreements.extend(pairs.iter().map(|pair| format!("model {number} geometry {geometries}: {pair}")));
+            let row = self.row(geometries, &geometry, !pairs.is_empty());
+            self.geometries.row(row);
+            geometries += 1;
+        }
+        let mark = if own.is_empty() { "" } else { "  !" };
+        let skinned = if model.is_skinned() { "skinned" } else { "not skinned" };
+        let (bone, mask) = (model.bone_index(), model.render_mask_flags);
+        let counted = counted(geometries as u64, "geometry", "geometries");
+        self.models.push((format!("\nmodel {number}: bone {bone}, {skinned}, mask {mask:#06x}, {counted}{mark}\n"), geometries));
+    }
+
+    /// Each model's line and its part of the table, under the titles.
+    fn models_shown(&self) -> String {
+        let lines = self.geometries.lines();
+        let mut text = String::new();
+        let mut at = 1;
+        for (line, count) in &self.models {
+            text += line;
+            if *count > 0 {
+                text += &lines[0];
+            }
+            text += &lines[at..at + count].concat();
+            at += count;
+        }
+        text
+    }
+
+    fn row(&mut self, place: usize, geometry: &Geometry<'_>, marked: bool) -> Vec<String> {
+        let found = |number: Option<u64>| number.map_or("none".to_string(), grouped);
+        let (layout, declaration) = match (geometry.vertex_buffer, geometry.declaration) {
+            (Some(vertices), Some(declaration)) => (vertices.layout.to_string(), format!("d{}", self.declared(declaration))),
+            (Some(vertices), None) => (vertices.layout.to_string(), "none".to_string()),
+            (None, _) => ("none".to_string(), "none".to_string()),
+        };
+        vec![
+            if marked { "!" } else { "" }.to_string(),
+            place.to_string(),
+            geometry.shader_id.to_string(),
+            grouped(geometry.triangles_count),
+            grouped(geometry.indices_count),
+            found(geometry.index_buffer.map(|buffer| buffer.indices().len() as u64)),
+            grouped(geometry.vertices_count),
+            found(geometry.vertex_buffer.map(|vertices| u64::from(vertices.vertex_count))),
+            geometry.vertex_stride.to_string(),
+            layout,
+            declaration,
+        ]
+    }
+
+    /// The number of a declaration among those met.
+    fn declared(&mut self, declaration: VertexDeclaration) -> usize {
+        self.declarations.iter().position(|known| *known == declaration).unwrap_or_else(|| {
+            self.declarations.push(declaration);
+            self.declarations.len() - 1
+        })
+    }
+
+    fn declarations_shown(&self) -> String {
+        if self.declarations.is_empty() {
+            return String::new();
+        }
+        let mut table = Table::new(&["declaration", "stride", "components"], &["declaration", "components"]);
+        for (number, declaration) in self.declarations.iter().enumerate() {
+            table.row(vec![format!("d{number}"), declaration.stride.to_string(), declaration.to_string()]);
+        }
+        format!("\n{}", table.text())
+    }
+
+    fn disagreements_shown(&self) -> String {
+        let mut text = match self.disagreements.len() {
+            0 => "all counts agree\n".to_string(),
+            1 => "1 pair of numbers disagrees:\n".to_string(),
+            many => format!("{many} pairs of numbers disagree:\n"),
+        };
+        for line in &self.disagreements {
+            text += &format!("! {line}\n");
+        }
+        text
+    }
 }

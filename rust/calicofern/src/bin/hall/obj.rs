@@ -49,11 +49,7 @@ impl Obj {
     }
 
     pub fn said(&self) -> String {
-        let made = format!(
-            "{} and {}",
-            counted(self.vertices, "position", "positions"),
-            counted(self.triangles, "triangle", "triangles")
-        );
+        let made = format!("{} and {}", counted(self.vertices, "position", "positions"), counted(self.triangles, "triangle", "triangles"));
         match self.left_out {
             0 => made,
             many => format!("{made} (and left out {} whose indices are beyond the vertices)", counted(many, "triangle", "triangles")),

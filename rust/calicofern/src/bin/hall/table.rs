@@ -16,12 +16,17 @@ impl Table {
         self.rows.push(cells);
     }
 
-    pub fn text(&self, indent: &str) -> String {
+    /// All lines, the titles first.
+    pub fn text(&self) -> String {
+        self.lines().concat()
+    }
+
+    /// A line for each row, the titles first.
+    pub fn lines(&self) -> Vec<String> {
         let titles = &self.rows[0];
         let width = |column: usize| self.rows.iter().filter_map(|row| row.get(column)).map(|cell| cell.chars().count()).max().unwrap_or(0);
         let widths: Vec<usize> = (0..titles.len()).map(width).collect();
-        let mut text = String::new();
-        for row in &self.rows {
+        let line = |row: &Vec<String>| {
             let cells = row.iter().zip(&widths).zip(titles).map(|((cell, width), title)| {
                 let width = *width;
                 if self.left.contains(&title.as_str()) {
@@ -30,10 +35,9 @@ impl Table {
                     format!("{cell:>width$}")
                 }
             });
-            let line = cells.collect::<Vec<_>>().join("  ");
-            text += &format!("{indent}{}\n", line.trim_end());
-        }
-        text
+            format!("{}\n", cells.collect::<Vec<_>>().join("  ").trim_end())
+        };
+        self.rows.iter().map(line).collect()
     }
 }
 
@@ -72,6 +76,7 @@ mod tests {
     fn columns_are_as_wide_as_their_cells() {
         let mut table = Table::new(&["n", "name", "more"], &["name", "more"]);
         table.row(vec!["10".to_string(), "a".to_string(), "x".to_string()]);
-        assert_eq!(table.text("  "), "   n  name  more\n  10  a     x\n");
+        assert_eq!(table.text(), " n  name  more\n10  a     x\n");
+        assert_eq!(table.lines().len(), 2);
     }
 }

@@ -36,9 +36,7 @@ pub fn run(mut arguments: Arguments) -> Result<String, Failure> {
         text += &write_obj(&found, &vertices, model, geometry, path)?;
     }
     if unified.is_none() && obj.is_none() {
-        let last = vertices.vertex_count.into();
-        let first = first.unwrap_or(0);
-        text += &shown(&vertices, first, count.unwrap_or(8).min(std::cmp::max(last, first + 1).saturating_sub(first)))?;
+        text += &shown(&vertices, first.unwrap_or(0), count.unwrap_or(8))?;
     }
     Ok(text)
 }
@@ -50,9 +48,10 @@ fn geometry_of(hall: &HallList, model: u64, geometry: u64) -> Result<Geometry<'_
         return Err(Failure::Usage(format!("there is no model {model}: the drawable has {models}, numbered from 0")));
     };
     let geometries = counted(found.geometries().count() as u64, "geometry", "geometries");
-    found.geometries().nth(place(geometry)).ok_or_else(|| {
-        Failure::Usage(format!("there is no geometry {geometry} of model {model}: it has {geometries}, numbered from 0"))
-    })
+    found
+        .geometries()
+        .nth(place(geometry))
+        .ok_or_else(|| Failure::Usage(format!("there is no geometry {geometry} of model {model}: it has {geometries}, numbered from 0")))
 }
 
 fn vertices_of<'a>(geometry: &Geometry<'a>, model: u64, place: u64) -> Result<Vertices<'a>, Failure> {
@@ -61,17 +60,19 @@ fn vertices_of<'a>(geometry: &Geometry<'a>, model: u64, place: u64) -> Result<Ve
         .ok_or_else(|| Failure::Usage(format!("no vertices were found for geometry {place} of model {model}: nothing to show")))
 }
 
-/// The attributes of some vertices, a line for each.
+/// The attributes of some vertices, a line for each. The first must be there; those beyond the last are left out.
 pub fn shown(vertices: &Vertices<'_>, first: u64, count: u64) -> Result<String, Failure> {
+    vertices.read_vertex_attributes(first)?;
     let components = vertices.declaration_or_position_only().components();
     let titles: Vec<String> = components.iter().map(|component| format!("{} {}", component.semantic, component.component_type)).collect();
-    let mut table = Table::new(&[&["vertex"], titles.iter().map(String::as_str).collect::<Vec<_>>().as_slice()].concat(), &[]);
-    for index in first..first.saturating_add(count) {
+    let titles: Vec<&str> = std::iter::once("vertex").chain(titles.iter().map(String::as_str)).collect();
+    let mut table = Table::new(&titles, &[]);
+    for index in first..first.saturating_add(count).min(vertices.vertex_count.into()) {
         let attributes = vertices.read_vertex_attributes(index)?;
         let values = attributes.iter().map(|attribute| attribute.value.to_string());
         table.row(std::iter::once(index.to_string()).chain(values).collect());
     }
-    Ok(table.text(""))
+    Ok(table.text())
 }
 
 pub fn write_unified(vertices: &Vertices<'_>, path: &str) -> Result<String, Failure> {
