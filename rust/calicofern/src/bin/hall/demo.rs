@@ -38,11 +38,14 @@ pub fn run(mut arguments: Arguments) -> Result<String, Failure> {
         vertices::write_unified(&stored, &path("balcony.unified"))?;
     }
 
-    text += "\nwrote\n";
-    text += &format!("  {}  the list, {}\n", path("shoebox.list"), counted(hall.as_bytes().len() as u64, "byte", "bytes"));
-    text += &format!("  {}  the balcony's unified vertices, {} bytes each\n", path("balcony.unified"), UnifiedVertex::SIZE);
     vertices::write_all_obj(&hall, &path("shoebox.obj"))?;
-    text += &format!("  {}  the whole hall as Wavefront OBJ, to look at in any 3D viewer\n", path("shoebox.obj"));
+
+    let mut wrote = Table::new(&["wrote", ""], &["wrote", ""]);
+    wrote.row(vec![path("shoebox.list"), format!("the list, {}", counted(hall.as_bytes().len() as u64, "byte", "bytes"))]);
+    wrote.row(vec![path("balcony.unified"), format!("the balcony's unified vertices, {} bytes each", UnifiedVertex::SIZE)]);
+    wrote.row(vec![path("shoebox.obj"), "the whole hall as Wavefront OBJ, to look at in any 3D viewer".to_string()]);
+    text += "\n";
+    text += &wrote.text();
     Ok(text)
 }
 
