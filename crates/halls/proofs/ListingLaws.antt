@@ -68,7 +68,7 @@ module _ (s : Sections) (count pointer room : ℕ) where
 pub shown : (x o : Outcome) (d : List ℕ) {r : Answer} {t : List ℕ} → x ≡ o → r ≡ answerOf o → t ≡ after o d → (r ≡ answerOf x) × (t ≡ after x d)
 shown x o d e p q = (p ∙ ap answerOf (sym e), q ∙ ap (λ (y : Outcome). after y d) (sym e))
 
--- ---- the header
+-- ---- the limit and the header
 
 abbrev headerOr : PointerListHeader → FoundHeader → PointerListHeader
 headerOr default (Header h) = h
