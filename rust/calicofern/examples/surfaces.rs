@@ -2,7 +2,7 @@
 //!
 //! cargo run --example surfaces -- ../../samples/shoebox.system
 
-use calicofern::{Geometry, Refusal, Sections};
+use calicofern::{DrawableGeometry, Refusal, Sections};
 use std::collections::BTreeMap;
 use std::error::Error;
 
@@ -28,7 +28,7 @@ fn main() -> Result<(), Box<dyn Error>> {
 }
 
 /// The area of a geometry's triangles.
-fn area(geometry: &Geometry<'_>) -> Result<f64, Refusal> {
+fn area(geometry: &DrawableGeometry<'_>) -> Result<f64, Refusal> {
     let Some(vertices) = geometry.vertex_buffer else {
         return Ok(0.0);
     };

@@ -1,6 +1,7 @@
 //! What one vertex has.
 
 use crate::bytes::{array, f32s_at, u16_at, u8_at};
+use crate::convert::{f32_to_unorm8, snorm_colour8, unorm8_to_f32};
 use crate::{calls, Refusal, VertexComponent, VertexComponentType, VertexDeclaration, VertexSemantic};
 use std::fmt;
 
@@ -52,6 +53,54 @@ impl VertexAttributeValue {
             VertexComponentType::Colour => Self::Colour(array(bytes, 0)),
             VertexComponentType::Rgba8Snorm => Self::Rgba8Snorm(f32s_at(bytes, 0)),
             VertexComponentType::Nothing | VertexComponentType::FloatUnknown | VertexComponentType::Unknown(_) => Self::Unsupported,
+        }
+    }
+
+    /// As two floats: the first two, with 0 where there is none.
+    pub fn as_vec2(&self) -> [f32; 2] {
+        let [x, y, ..] = self.filled(0.0);
+        [x, y]
+    }
+
+    /// As three floats: the first three, with 0 where there is none.
+    pub fn as_vec3(&self) -> [f32; 3] {
+        let [x, y, z, _] = self.filled(0.0);
+        [x, y, z]
+    }
+
+    /// As four floats: 0 stands where there is no second or third, 1 where there is no fourth. Zeros where there are none at all.
+    pub fn as_vec4(&self) -> [f32; 4] {
+        match self {
+            Self::Unsupported => [0.0; 4],
+            _ => self.filled(1.0),
+        }
+    }
+
+    /// As a colour: bytes as they are; four floats from 0 to 1, signed bytes from -1 to 1, as bytes; all else is 255 four times.
+    ///
+    /// ```
+    /// use calicofern::VertexAttributeValue;
+    /// assert_eq!(VertexAttributeValue::Float4([0.0, 0.5, 1.0, f32::NAN]).as_rgba8(), [0, 127, 255, 0]);
+    /// assert_eq!(VertexAttributeValue::Float3([0.0, 0.5, 1.0]).as_rgba8(), [255; 4]);
+    /// ```
+    pub fn as_rgba8(&self) -> [u8; 4] {
+        match self {
+            Self::UByte4(bytes) | Self::Colour(bytes) => *bytes,
+            Self::Half4(values) | Self::Float4(values) => values.map(f32_to_unorm8),
+            Self::Rgba8Snorm(values) => values.map(snorm_colour8),
+            Self::Half2(_) | Self::Float(_) | Self::Float2(_) | Self::Float3(_) | Self::Unsupported => [255; 4],
+        }
+    }
+
+    /// Its numbers, bytes as numbers from 0 to 1, filled up with zeros and the fourth with `w`.
+    fn filled(&self, w: f32) -> [f32; 4] {
+        match *self {
+            Self::Float(x) => [x, 0.0, 0.0, w],
+            Self::Half2([x, y]) | Self::Float2([x, y]) => [x, y, 0.0, w],
+            Self::Float3([x, y, z]) => [x, y, z, w],
+            Self::Half4(values) | Self::Float4(values) | Self::Rgba8Snorm(values) => values,
+            Self::UByte4(bytes) | Self::Colour(bytes) => bytes.map(unorm8_to_f32),
+            Self::Unsupported => [0.0, 0.0, 0.0, w],
         }
     }
 }

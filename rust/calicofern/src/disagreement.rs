@@ -1,6 +1,6 @@
 //! Numbers of a drawable that ought to agree.
 
-use crate::Geometry;
+use crate::DrawableGeometry;
 use std::fmt;
 
 /// Two numbers of a model or a geometry that ought to agree and do not.
@@ -37,14 +37,14 @@ fn at_most(check: u8, one: Number, other: Number) -> Option<Disagreement> {
     (one.1 > other.1).then_some(Disagreement { check: Some(check), one, other })
 }
 
-pub fn geometry_disagreements(geometry: &Geometry<'_>) -> Vec<Disagreement> {
+pub fn geometry_disagreements(geometry: &DrawableGeometry<'_>) -> Vec<Disagreement> {
     let mut found = index_disagreements(geometry);
     found.extend(vertex_disagreements(geometry));
     found.extend(declaration_disagreements(geometry));
     found
 }
 
-fn index_disagreements(geometry: &Geometry<'_>) -> Vec<Disagreement> {
+fn index_disagreements(geometry: &DrawableGeometry<'_>) -> Vec<Disagreement> {
     let stored = ("index count", u64::from(geometry.indices_count));
     let triangles = ("3 x triangle count", 3 * u64::from(geometry.triangles_count));
     let mut found = vec![equal(17, stored, triangles)];
@@ -65,7 +65,7 @@ fn index_disagreements(geometry: &Geometry<'_>) -> Vec<Disagreement> {
     found.into_iter().flatten().collect()
 }
 
-fn vertex_disagreements(geometry: &Geometry<'_>) -> Vec<Disagreement> {
+fn vertex_disagreements(geometry: &DrawableGeometry<'_>) -> Vec<Disagreement> {
     let stored = ("vertex count", u64::from(geometry.vertices_count));
     let stride = ("stride", u64::from(geometry.vertex_stride));
     match geometry.vertex_buffer {
@@ -78,7 +78,7 @@ fn vertex_disagreements(geometry: &Geometry<'_>) -> Vec<Disagreement> {
     }
 }
 
-fn declaration_disagreements(geometry: &Geometry<'_>) -> Vec<Disagreement> {
+fn declaration_disagreements(geometry: &DrawableGeometry<'_>) -> Vec<Disagreement> {
     let Some(vertices) = geometry.vertex_buffer else {
         return Vec::new();
     };

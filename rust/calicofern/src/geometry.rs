@@ -18,18 +18,18 @@ impl<'a> Geometries<'a> {
 }
 
 impl<'a> Iterator for Geometries<'a> {
-    type Item = Geometry<'a>;
+    type Item = DrawableGeometry<'a>;
 
-    fn next(&mut self) -> Option<Geometry<'a>> {
+    fn next(&mut self) -> Option<DrawableGeometry<'a>> {
         self.rest.split_before(&[GEOMETRY]);
         let numbers = self.rest.next()?;
-        Some(Geometry::read(numbers.body, self.rest.split_before(&[GEOMETRY])))
+        Some(DrawableGeometry::read(numbers.body, self.rest.split_before(&[GEOMETRY])))
     }
 }
 
 /// A geometry of a list: what its block says, and what was found behind it.
 #[derive(Debug, Clone, Copy)]
-pub struct Geometry<'a> {
+pub struct DrawableGeometry<'a> {
     /// Its shader id: the mapping's entry at its place, 0 where there is none.
     pub shader_id: u16,
     /// The number of indices, as its block says.
@@ -48,12 +48,12 @@ pub struct Geometry<'a> {
     pub index_buffer: Option<IndexBuffer<'a>>,
 }
 
-impl<'a> Geometry<'a> {
+impl<'a> DrawableGeometry<'a> {
     /// `numbers`: the body of its record. `parts`: the records behind it, up to the next geometry.
     fn read(numbers: &'a [u8], parts: Records<'a>) -> Self {
         let body = |kind| parts.into_iter().find(|record: &Record<'a>| record.kind == kind).map(|record| record.body);
         let declaration = body(DECLARATION).map(|bytes| VertexDeclaration::from_bytes(array(bytes, 0)));
-        Geometry {
+        DrawableGeometry {
             shader_id: u16_at(numbers, 0),
             indices_count: u32_at(numbers, 2),
             triangles_count: u32_at(numbers, 6),

@@ -27,7 +27,7 @@
 //! | to do this | use |
 //! |---|---|
 //! | list the models and geometries of a drawable | [`Sections::hall_list`], [`HallList::models`] |
-//! | see where its counts disagree | [`Geometry::disagreements`], [`Model::disagreements`] |
+//! | see where its counts disagree | [`DrawableGeometry::disagreements`], [`DrawableModel::disagreements`] |
 //! | read vertices as they are stored, or in one form | [`Vertices::read_vertex_attributes`], [`Vertices::to_unified_vertices`] |
 //! | find a vertex buffer by its address | [`Sections::vertex_buffer_at`] |
 //! | convert halves and normalised bytes | [`convert`] |
@@ -56,10 +56,10 @@ pub use attribute::{VertexAttribute, VertexAttributeValue};
 pub use buffer::{InlineVertices, VertexBuffer, VertexBufferLayout, Vertices};
 pub use declaration::{VertexComponent, VertexDeclaration};
 pub use disagreement::Disagreement;
-pub use geometry::{Geometries, Geometry, IndexBuffer, Indices};
+pub use geometry::{DrawableGeometry, Geometries, IndexBuffer, Indices};
 pub use lend::ALLOCATION_LIMIT;
 pub use list::HallList;
-pub use model::{Model, Models};
+pub use model::{DrawableModel, Models};
 pub use refusal::Refusal;
 pub use sections::Sections;
 pub use types::{VertexComponentType, VertexSemantic};

@@ -19,12 +19,12 @@ impl<'a> Models<'a> {
 }
 
 impl<'a> Iterator for Models<'a> {
-    type Item = Model<'a>;
+    type Item = DrawableModel<'a>;
 
-    fn next(&mut self) -> Option<Model<'a>> {
+    fn next(&mut self) -> Option<DrawableModel<'a>> {
         self.rest.split_before(&[MODEL]);
         let model = self.rest.next()?;
-        Some(Model {
+        Some(DrawableModel {
             skeleton_binding: u32_at(model.body, 0),
             render_mask_flags: u16_at(model.body, 4),
             mapping: model.body.get(6..).unwrap_or_default(),
@@ -35,7 +35,7 @@ impl<'a> Iterator for Models<'a> {
 
 /// A model of a list.
 #[derive(Debug, Clone, Copy)]
-pub struct Model<'a> {
+pub struct DrawableModel<'a> {
     /// How it is bound to a skeleton.
     pub skeleton_binding: u32,
     /// In which passes it is drawn.
@@ -44,7 +44,7 @@ pub struct Model<'a> {
     parts: Records<'a>,
 }
 
-impl<'a> Model<'a> {
+impl<'a> DrawableModel<'a> {
     /// The shader ids of its geometry pointers, one for each; empty where they were not found.
     pub fn shader_mapping(&self) -> impl ExactSizeIterator<Item = u16> + 'a {
         self.mapping.chunks_exact(2).map(|entry| u16_at(entry, 0))
@@ -75,7 +75,7 @@ impl<'a> Model<'a> {
         calls::is_skinned(self.skeleton_binding)
     }
 
-    /// The numbers of the model itself that disagree: those of its geometries are theirs ([`crate::Geometry::disagreements`]).
+    /// The numbers of the model itself that disagree: those of its geometries are theirs ([`crate::DrawableGeometry::disagreements`]).
     pub fn disagreements(&self) -> Vec<Disagreement> {
         let entries = self.shader_mapping().len() as u64;
         equal(12, ("shader mapping entries", entries), ("geometries", self.geometries().count() as u64)).into_iter().collect()

@@ -84,8 +84,8 @@ mod tests {
 
     #[test]
     fn every_field_comes_from_its_component() {
-        // all sixteen semantics: floats 3, 4 and 2, bytes, and a snorm colour
-        let types = 0x7755_5555_5555_A987u64 & !0xF000 | 0x6000;
+        // nibbles from the lowest: Position Float4, BlendWeights UByte4, BlendIndices Colour, Normal Float3, then Float2, Tangent and Binormal Float4
+        let types = 0x7755_5555_5555_6987;
         let declaration = VertexDeclaration { flags: 0xFFFF, types, ..VertexDeclaration::position_only(0) };
         let size = usize::from(declaration.size_in_bytes());
         let mut data = vec![0; size];
@@ -107,6 +107,36 @@ mod tests {
         assert_eq!(unified.texcoord0, [6.0, 6.25]);
         assert_eq!(unified.texcoord1, [7.0, 7.25]);
         assert_eq!(unified.tangent, [14.0, 14.25, 14.5, 14.75]);
+    }
+
+    /// The crate's views of a value are those by which the proved library unifies: every type, as every field.
+    #[test]
+    fn fields_are_the_views_of_attributes() {
+        let floats = [0.25f32, -1.5, f32::from_bits(0x7F80_0001), 0.75];
+        let bytes: Vec<u8> = floats.iter().flat_map(|value| value.to_le_bytes()).collect();
+        let bits = |values: &[f32]| values.iter().map(|value| value.to_bits()).collect::<Vec<_>>();
+        for nibble in 0..16u64 {
+            for data in [&bytes[..], &[0x00, 0x3C, 0x00, 0xC0, 0xFF, 0x35, 0x01, 0x7C, 9, 8, 7, 6, 5, 4, 3, 2]] {
+                for (semantic, field) in
+                    [(0, "position"), (3, "normal"), (4, "color0"), (5, "color1"), (6, "texcoord0"), (14, "tangent"), (1, "weights")]
+                {
+                    let declaration =
+                        VertexDeclaration { flags: 1 << semantic, types: nibble << (4 * semantic), ..VertexDeclaration::position_only(16) };
+                    let one = vertices(Some(declaration), 16, 1, data);
+                    let value = one.read_vertex_attributes(0).unwrap()[0].value;
+                    let unified = one.to_unified_vertices().unwrap()[0];
+                    match field {
+                        "position" => assert_eq!(bits(&unified.position), bits(&value.as_vec3())),
+                        "normal" => assert_eq!(bits(&unified.normal), bits(&value.as_vec3())),
+                        "color0" => assert_eq!(unified.color0, value.as_rgba8()),
+                        "color1" => assert_eq!(unified.color1, value.as_rgba8()),
+                        "texcoord0" => assert_eq!(bits(&unified.texcoord0), bits(&value.as_vec2())),
+                        "tangent" => assert_eq!(bits(&unified.tangent), bits(&value.as_vec4())),
+                        _ => assert_eq!(bits(&unified.blend_weights), bits(&value.as_vec4())),
+                    }
+                }
+            }
+        }
     }
 
     #[test]

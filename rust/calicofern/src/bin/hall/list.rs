@@ -5,7 +5,7 @@ use crate::drawable::{write, Drawable};
 use crate::failure::Failure;
 use crate::progress;
 use crate::table::{counted, grouped, Table};
-use calicofern::{Geometry, HallList, Model, VertexDeclaration};
+use calicofern::{DrawableGeometry, DrawableModel, HallList, VertexDeclaration};
 
 pub fn run(mut arguments: Arguments) -> Result<String, Failure> {
     let bytes = arguments.option("--bytes")?;
@@ -64,7 +64,7 @@ impl Found {
         found
     }
 
-    fn add(&mut self, model: &Model<'_>) {
+    fn add(&mut self, model: &DrawableModel<'_>) {
         let number = self.models.len();
         let own = model.disagreements();
         self.disagreements.extend(own.iter().map(|pair| format!("model {number}: {pair}")));
@@ -99,7 +99,7 @@ impl Found {
         text
     }
 
-    fn row(&mut self, place: usize, geometry: &Geometry<'_>, marked: bool) -> Vec<String> {
+    fn row(&mut self, place: usize, geometry: &DrawableGeometry<'_>, marked: bool) -> Vec<String> {
         let found = |number: Option<u64>| number.map_or("none".to_string(), grouped);
         let (layout, declaration) = match (geometry.vertex_buffer, geometry.declaration) {
             (Some(vertices), Some(declaration)) => (vertices.layout.to_string(), format!("d{}", self.declared(declaration))),

@@ -2,7 +2,7 @@
 
 use crate::failure::Failure;
 use crate::table::counted;
-use calicofern::{Geometry, Vertices};
+use calicofern::{DrawableGeometry, Vertices};
 use std::fmt::Write;
 
 /// An OBJ file in the making: a group for each geometry.
@@ -16,7 +16,7 @@ pub struct Obj {
 
 impl Obj {
     /// Adds a geometry's positions and triangles. A triangle with an index beyond the vertices is left out and counted.
-    pub fn add(&mut self, group: &str, vertices: &Vertices<'_>, geometry: &Geometry<'_>) -> Result<(), Failure> {
+    pub fn add(&mut self, group: &str, vertices: &Vertices<'_>, geometry: &DrawableGeometry<'_>) -> Result<(), Failure> {
         let before = self.vertices;
         self.line(format_args!("g {group}"));
         for vertex in vertices.to_unified_vertices()? {

@@ -6,7 +6,7 @@ use crate::failure::Failure;
 use crate::obj::Obj;
 use crate::progress;
 use crate::table::{counted, Table};
-use calicofern::{Geometry, HallList, UnifiedVertex, Vertices};
+use calicofern::{DrawableGeometry, HallList, UnifiedVertex, Vertices};
 
 pub fn run(mut arguments: Arguments) -> Result<String, Failure> {
     let model = arguments.number("--model")?;
@@ -41,7 +41,7 @@ pub fn run(mut arguments: Arguments) -> Result<String, Failure> {
     Ok(text)
 }
 
-fn geometry_of(hall: &HallList, model: u64, geometry: u64) -> Result<Geometry<'_>, Failure> {
+fn geometry_of(hall: &HallList, model: u64, geometry: u64) -> Result<DrawableGeometry<'_>, Failure> {
     let place = |number: u64| usize::try_from(number).unwrap_or(usize::MAX);
     let models = counted(hall.models().count() as u64, "model", "models");
     let Some(found) = hall.models().nth(place(model)) else {
@@ -54,7 +54,7 @@ fn geometry_of(hall: &HallList, model: u64, geometry: u64) -> Result<Geometry<'_
         .ok_or_else(|| Failure::Usage(format!("there is no geometry {geometry} of model {model}: it has {geometries}, numbered from 0")))
 }
 
-fn vertices_of<'a>(geometry: &Geometry<'a>, model: u64, place: u64) -> Result<Vertices<'a>, Failure> {
+fn vertices_of<'a>(geometry: &DrawableGeometry<'a>, model: u64, place: u64) -> Result<Vertices<'a>, Failure> {
     geometry
         .vertex_buffer
         .ok_or_else(|| Failure::Usage(format!("no vertices were found for geometry {place} of model {model}: nothing to show")))
@@ -82,7 +82,7 @@ pub fn write_unified(vertices: &Vertices<'_>, path: &str) -> Result<String, Fail
     Ok(format!("wrote {count}, {} bytes each, to {path}\n", UnifiedVertex::SIZE))
 }
 
-fn write_obj(geometry: &Geometry<'_>, vertices: &Vertices<'_>, model: u64, place: u64, path: &str) -> Result<String, Failure> {
+fn write_obj(geometry: &DrawableGeometry<'_>, vertices: &Vertices<'_>, model: u64, place: u64, path: &str) -> Result<String, Failure> {
     let mut obj = Obj::default();
     progress::during("making the OBJ", || obj.add(&group(model, place, geometry), vertices, geometry))?;
     write_made(obj, path)
@@ -105,7 +105,7 @@ pub fn write_all_obj(hall: &HallList, path: &str) -> Result<String, Failure> {
     write_made(obj, path)
 }
 
-fn group(model: u64, place: u64, geometry: &Geometry<'_>) -> String {
+fn group(model: u64, place: u64, geometry: &DrawableGeometry<'_>) -> String {
     format!("model_{model}_geometry_{place}_shader_{}", geometry.shader_id)
 }
 
