@@ -82,7 +82,7 @@ impl VertexDeclaration {
     }
 }
 
-/// Names, in order: `Position Float3, Normal Rgba8Snorm`.
+/// Names, in order: `Position Float3, Normal RGBA8SNorm`.
 impl fmt::Display for VertexDeclaration {
     fn fmt(&self, out: &mut fmt::Formatter<'_>) -> fmt::Result {
         let components = self.components();

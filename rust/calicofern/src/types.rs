@@ -137,20 +137,20 @@ impl VertexComponentType {
         }
     }
 
-    /// Its name; `Unknown` for 11 to 15.
+    /// Its name in other tools of the format; `Unknown` for 11 to 15.
     pub fn as_str(&self) -> &'static str {
         match self {
             Self::Nothing => "Nothing",
             Self::Half2 => "Half2",
             Self::Float => "Float",
             Self::Half4 => "Half4",
-            Self::FloatUnknown => "FloatUnknown",
+            Self::FloatUnknown => "FloatUnk",
             Self::Float2 => "Float2",
             Self::Float3 => "Float3",
             Self::Float4 => "Float4",
             Self::UByte4 => "UByte4",
             Self::Colour => "Colour",
-            Self::Rgba8Snorm => "Rgba8Snorm",
+            Self::Rgba8Snorm => "RGBA8SNorm",
             Self::Unknown(_) => "Unknown",
         }
     }
@@ -159,8 +159,26 @@ impl VertexComponentType {
 impl fmt::Display for VertexComponentType {
     fn fmt(&self, out: &mut fmt::Formatter<'_>) -> fmt::Result {
         match self {
-            Self::Unknown(nibble) => out.pad(&format!("Unknown{nibble}")),
+            Self::Unknown(nibble) => out.pad(&format!("Unk{nibble}")),
             known => out.pad(known.as_str()),
         }
+    }
+}
+
+#[cfg(test)]
+mod tests {
+    use super::*;
+
+    #[test]
+    fn numbers_and_names() {
+        assert_eq!((0..18).map(VertexSemantic::from_index).filter(|semantic| semantic.as_str() == "Unknown").count(), 2);
+        assert_eq!(VertexSemantic::from_index(14).to_string(), "Tangent");
+        assert_eq!(VertexSemantic::from_index(16).to_string(), "Unknown16");
+        assert_eq!(VertexComponentType::from_nibble(10).to_string(), "RGBA8SNorm");
+        assert_eq!(VertexComponentType::from_nibble(11).to_string(), "Unk11");
+        let sizes: Vec<u8> = (0..16).map(|nibble| VertexComponentType::from_nibble(nibble).size_in_bytes()).collect();
+        assert_eq!(sizes, [0, 4, 4, 8, 0, 8, 12, 16, 4, 4, 4, 0, 0, 0, 0, 0]);
+        let counts: Vec<u8> = (0..16).map(|nibble| VertexComponentType::from_nibble(nibble).component_count()).collect();
+        assert_eq!(counts, [0, 2, 1, 4, 0, 2, 3, 4, 4, 4, 4, 0, 0, 0, 0, 0]);
     }
 }

@@ -59,7 +59,7 @@ impl UnifiedVertex {
 #[cfg(test)]
 mod tests {
     use super::*;
-    use crate::{VertexBufferLayout, VertexDeclaration, Vertices};
+    use crate::{VertexAttributeValue, VertexBufferLayout, VertexDeclaration, VertexSemantic, Vertices};
 
     fn vertices(declaration: Option<VertexDeclaration>, vertex_stride: u16, vertex_count: u32, data: &[u8]) -> Vertices<'_> {
         Vertices { layout: VertexBufferLayout::Legacy, vertex_stride, vertex_count, declaration, data }
@@ -82,60 +82,28 @@ mod tests {
         assert_eq!(vertices(Some(nothing), 4, 2, &[7; 8]).to_unified_vertices(), Ok(vec![expected; 2]));
     }
 
+    /// Each field is its component, seen by the view of its width: of every type, with numbers that differ everywhere, NaNs among them.
     #[test]
     fn every_field_comes_from_its_component() {
-        // nibbles from the lowest: Position Float4, BlendWeights UByte4, BlendIndices Colour, Normal Float3, then Float2, Tangent and Binormal Float4
-        let types = 0x7755_5555_5555_6987;
-        let declaration = VertexDeclaration { flags: 0xFFFF, types, ..VertexDeclaration::position_only(0) };
-        let size = usize::from(declaration.size_in_bytes());
-        let mut data = vec![0; size];
-        for component in declaration.components() {
-            let at = usize::from(component.offset);
-            match component.component_type.as_str() {
-                "UByte4" | "Colour" | "Rgba8Snorm" => data[at..at + 4].fill(component.semantic_index),
-                _ => {
-                    for i in 0..usize::from(component.component_type.component_count()) {
-                        let value = f32::from(component.semantic_index) + i as f32 / 4.0;
-                        data[at + 4 * i..at + 4 * i + 4].copy_from_slice(&value.to_le_bytes());
-                    }
-                }
-            }
-        }
-        let unified = vertices(Some(declaration), size as u16, 1, &data).to_unified_vertices().unwrap()[0];
-        assert_eq!(unified.position, [0.0, 0.25, 0.5]);
-        assert_eq!(unified.normal, [3.0, 3.25, 3.5]);
-        assert_eq!(unified.texcoord0, [6.0, 6.25]);
-        assert_eq!(unified.texcoord1, [7.0, 7.25]);
-        assert_eq!(unified.tangent, [14.0, 14.25, 14.5, 14.75]);
-    }
-
-    /// The crate's views of a value are those by which the proved library unifies: every type, as every field.
-    #[test]
-    fn fields_are_the_views_of_attributes() {
-        let floats = [0.25f32, -1.5, f32::from_bits(0x7F80_0001), 0.75];
-        let bytes: Vec<u8> = floats.iter().flat_map(|value| value.to_le_bytes()).collect();
+        let data: Vec<u8> = (0..=255).map(|at: u8| if at % 4 > 1 { at | 0x7C } else { at.wrapping_mul(37) }).collect();
         let bits = |values: &[f32]| values.iter().map(|value| value.to_bits()).collect::<Vec<_>>();
-        for nibble in 0..16u64 {
-            for data in [&bytes[..], &[0x00, 0x3C, 0x00, 0xC0, 0xFF, 0x35, 0x01, 0x7C, 9, 8, 7, 6, 5, 4, 3, 2]] {
-                for (semantic, field) in
-                    [(0, "position"), (3, "normal"), (4, "color0"), (5, "color1"), (6, "texcoord0"), (14, "tangent"), (1, "weights")]
-                {
-                    let declaration =
-                        VertexDeclaration { flags: 1 << semantic, types: nibble << (4 * semantic), ..VertexDeclaration::position_only(16) };
-                    let one = vertices(Some(declaration), 16, 1, data);
-                    let value = one.read_vertex_attributes(0).unwrap()[0].value;
-                    let unified = one.to_unified_vertices().unwrap()[0];
-                    match field {
-                        "position" => assert_eq!(bits(&unified.position), bits(&value.as_vec3())),
-                        "normal" => assert_eq!(bits(&unified.normal), bits(&value.as_vec3())),
-                        "color0" => assert_eq!(unified.color0, value.as_rgba8()),
-                        "color1" => assert_eq!(unified.color1, value.as_rgba8()),
-                        "texcoord0" => assert_eq!(bits(&unified.texcoord0), bits(&value.as_vec2())),
-                        "tangent" => assert_eq!(bits(&unified.tangent), bits(&value.as_vec4())),
-                        _ => assert_eq!(bits(&unified.blend_weights), bits(&value.as_vec4())),
-                    }
-                }
-            }
+        for nibble in 0..16 {
+            let declaration =
+                VertexDeclaration { flags: 0xFFFF, types: nibble * 0x1111_1111_1111_1111, ..VertexDeclaration::position_only(256) };
+            let one = vertices(Some(declaration), 256, 1, &data);
+            let attributes = one.read_vertex_attributes(0).unwrap();
+            let value = |semantic| attributes.iter().find(|attribute| attribute.component.semantic == semantic).unwrap().value;
+            let unified = one.to_unified_vertices().unwrap()[0];
+            assert_eq!(bits(&unified.position), bits(&value(VertexSemantic::Position).as_vec3()));
+            assert_eq!(bits(&unified.normal), bits(&value(VertexSemantic::Normal).as_vec3()));
+            assert_eq!(unified.color0, value(VertexSemantic::Colour0).as_rgba8());
+            assert_eq!(unified.color1, value(VertexSemantic::Colour1).as_rgba8());
+            assert_eq!(bits(&unified.texcoord0), bits(&value(VertexSemantic::TexCoord0).as_vec2()));
+            assert_eq!(bits(&unified.texcoord1), bits(&value(VertexSemantic::TexCoord1).as_vec2()));
+            assert_eq!(bits(&unified.tangent), bits(&value(VertexSemantic::Tangent).as_vec4()));
+            assert_eq!(bits(&unified.blend_weights), bits(&value(VertexSemantic::BlendWeights).as_vec4()));
+            let indices = value(VertexSemantic::BlendIndices);
+            assert_eq!(unified.blend_indices, if let VertexAttributeValue::UByte4(bytes) = indices { bytes } else { [0; 4] });
         }
     }
 

@@ -64,7 +64,7 @@ fn every_layout_is_found() {
     assert_eq!(geometries[2].vertices_count, 54);
     assert_eq!(geometries[2].declaration, None);
     let names = geometries[0].declaration.unwrap().to_string();
-    assert!(names.starts_with("Position Float3, BlendWeights Colour, BlendIndices UByte4, Normal Rgba8Snorm"), "{names}");
+    assert!(names.starts_with("Position Float3, BlendWeights Colour, BlendIndices UByte4, Normal RGBA8SNorm"), "{names}");
 }
 
 #[test]
