@@ -40,7 +40,7 @@ fn path(folder: &Path, name: &str) -> String {
 fn list_shows_a_sound_hall() {
     let text = printed(&["list", "samples/shoebox"]);
     assert!(text.starts_with("samples/shoebox: 17,648 bytes of system section, 0 of graphics section, read at 0x50000000\n"), "{text}");
-    assert!(text.contains("model 1: bone 0, not skinned, mask 0x00ff, 4 geometries\n"), "{text}");
+    assert!(text.contains("model 1: binding 0x00000000 (bone 0, not skinned), mask 0x00ff, 4 geometries\n"), "{text}");
     assert!(text.contains("         1       3         80      240    240       120    120      32  Legacy  d0\n"), "{text}");
     assert!(text.contains("d0               32  Position Float3, Normal Float3, TexCoord0 Float2\n"), "{text}");
     assert!(text.ends_with("\n2 models, 7 geometries, 382 triangles\nall counts agree\n"), "{text}");
@@ -188,6 +188,7 @@ fn help_and_version() {
     for command in ["list", "vertices", "halves", "demo"] {
         assert!(help.contains(&format!("\n  hall {command} ")), "{help}");
     }
+    assert_eq!(printed(&["list", "--help"]), help);
     assert!(help.lines().all(|line| line.len() <= 110), "{help}");
     assert_eq!(printed(&["--version"]), format!("hall {}\n", env!("CARGO_PKG_VERSION")));
 }

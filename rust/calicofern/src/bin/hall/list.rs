@@ -76,11 +76,16 @@ impl Found {
             self.geometries.row(row);
             geometries += 1;
         }
-        let mark = if own.is_empty() { "" } else { "  !" };
-        let skinned = if model.is_skinned() { "skinned" } else { "not skinned" };
-        let (bone, mask) = (model.bone_index(), model.render_mask_flags);
-        let counted = counted(geometries as u64, "geometry", "geometries");
-        self.models.push((format!("\nmodel {number}: bone {bone}, {skinned}, mask {mask:#06x}, {counted}{mark}\n"), geometries));
+        let line = format!(
+            "\nmodel {number}: binding {:#010x} (bone {}, {}), mask {:#06x}, {}{}\n",
+            model.skeleton_binding,
+            model.bone_index(),
+            if model.is_skinned() { "skinned" } else { "not skinned" },
+            model.render_mask_flags,
+            counted(geometries as u64, "geometry", "geometries"),
+            if own.is_empty() { "" } else { "  !" },
+        );
+        self.models.push((line, geometries));
     }
 
     /// Each model's line and its part of the table, under the titles.

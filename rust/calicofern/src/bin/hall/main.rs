@@ -61,7 +61,10 @@ fn main() -> ExitCode {
 fn run(words: Vec<String>) -> Result<String, Failure> {
     let mut words = words.into_iter();
     let command = words.next().ok_or_else(|| Failure::Usage("no command; 'hall --help' lists them".to_string()))?;
-    let arguments = Arguments::new(words.collect());
+    let mut arguments = Arguments::new(words.collect());
+    if arguments.flag("--help")? {
+        return Ok(HELP.to_string());
+    }
     match command.as_str() {
         "list" => list::run(arguments),
         "vertices" => vertices::run(arguments),
