@@ -88,9 +88,73 @@ fn declaration_disagreements(geometry: &DrawableGeometry<'_>) -> Vec<Disagreemen
     let mut found = vec![at_most(15, size, stride)];
     if geometry.declaration.is_some() {
         found.push(equal(14, stride, ("stride of the declaration", u64::from(declaration.stride))));
-        let components = declaration.components().len() as u64;
-        let count = equal(0, ("count of the declaration", u64::from(declaration.count)), ("components", components));
-        found.push(count.map(|pair| Disagreement { check: None, ..pair }));
+        let one = ("count of the declaration", u64::from(declaration.count));
+        let other = ("components", declaration.components().len() as u64);
+        found.push((one.1 != other.1).then_some(Disagreement { check: None, one, other }));
     }
     found.into_iter().flatten().collect()
+}
+
+#[cfg(test)]
+mod tests {
+    use crate::Models;
+
+    fn record(kind: u8, body: &[u8]) -> Vec<u8> {
+        [&[body.len() as u8, 0, 0, 0, kind, 0], body].concat()
+    }
+
+    /// One model, one geometry, three Float3 positions, three indices.
+    fn sound() -> Vec<u8> {
+        let declaration = [1, 0, 0, 0, 12, 0, 0, 1, 6, 0, 0, 0, 0, 0, 0, 0];
+        let vertices = [&[0, 12, 0, 3, 0, 0, 0][..], &[0; 36]].concat();
+        let records = [
+            record(1, &[0, 0, 0, 0, 0, 0, 5, 0]),
+            record(2, &[5, 0, 3, 0, 0, 0, 1, 0, 0, 0, 3, 0, 12, 0]),
+            record(3, &declaration),
+            record(4, &vertices),
+            record(5, &[3, 0, 0, 0, 0, 0, 0, 0, 1, 0, 0, 0, 2, 0, 0, 0]),
+        ];
+        records.concat()
+    }
+
+    /// The checks of the pairs that disagree in a list.
+    fn checks(list: &[u8]) -> Vec<Option<u8>> {
+        let model = Models::of(list).next().unwrap();
+        let geometry = model.geometries().next().unwrap();
+        model.disagreements().iter().chain(&geometry.disagreements()).map(|pair| pair.check).collect()
+    }
+
+    #[test]
+    fn each_number_is_held_to_the_others() {
+        assert_eq!(sound().len(), 127);
+        assert_eq!(checks(&sound()), []);
+        let changes: [(&str, usize, u8, &[Option<u8>]); 11] = [
+            ("index count", 22, 6, &[Some(17), Some(17)]),
+            ("triangle count", 26, 2, &[Some(17)]),
+            ("vertex count", 30, 4, &[Some(16)]),
+            ("stride", 32, 13, &[Some(14)]),
+            ("stride of the declaration", 44, 13, &[Some(14)]),
+            ("count of the declaration", 47, 2, &[None]),
+            ("type of the position: 16 bytes", 48, 7, &[Some(15)]),
+            ("stride of the vertices", 63, 11, &[Some(14), Some(15), Some(14)]),
+            ("count of the vertices", 65, 4, &[Some(16)]),
+            ("count of the index block", 111, 4, &[Some(17), Some(17)]),
+            ("an index", 119, 3, &[Some(18)]),
+        ];
+        for (what, at, value, expected) in changes {
+            let mut list = sound();
+            list[at] = value;
+            assert_eq!(checks(&list), expected, "{what}");
+        }
+    }
+
+    #[test]
+    fn parts_that_are_missing_have_no_numbers() {
+        let whole = sound();
+        assert_eq!(checks(&whole[..105]), [Some(11)]);
+        assert_eq!(checks(&whole[..56]), [Some(11), Some(11)]);
+        // a mapping of two entries
+        let longer = [record(1, &[0, 0, 0, 0, 0, 0, 5, 0, 6, 0]), whole[14..].to_vec()].concat();
+        assert_eq!(checks(&longer), [Some(12)]);
+    }
 }
