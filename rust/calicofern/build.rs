@@ -99,8 +99,11 @@ fn prove(root: &Path) {
     match Command::new("rt").args(["staticlib", LIBRARY]).current_dir(root).output() {
         Ok(done) if done.status.success() => {}
         Ok(done) => {
-            eprint!("{}{}", String::from_utf8_lossy(&done.stdout), String::from_utf8_lossy(&done.stderr));
-            stop(&format!("'rt staticlib {LIBRARY}' in the repository's root ended with {}; its output stands above", done.status));
+            let said = format!("{}{}", String::from_utf8_lossy(&done.stdout), String::from_utf8_lossy(&done.stderr));
+            for line in said.lines().filter(|line| !line.ends_with(": proved")) {
+                eprintln!("{line}");
+            }
+            stop(&format!("'rt staticlib {LIBRARY}' in the repository's root ended with {}; what it said stands above", done.status));
         }
         Err(error) if error.kind() == io::ErrorKind::NotFound => stop(&format!(
             "target/staticlib/lib{LIBRARY}.a is missing or older than its sources, and the Rattle kit that builds it is not installed (no 'rt' on the \
