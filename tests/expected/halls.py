@@ -350,7 +350,7 @@ def number_rows():
     """Fields at their least and greatest."""
     for binding, mask in [(0, 0), (0xFFFFFFFF, 0xFFFF), (0x80000001, 0x8001)]:
         w = Writer()
-        list_row(w.drawable(w.header([w.model([], binding=binding, mask=mask)])))
+        list_rows(w.drawable(w.header([w.model([], binding=binding, mask=mask)])))
     # indices, triangles, vertices, stride
     for numbers in [(0, 0, 0, 0), (0, 1, 2, 3), (1, 2, 3, 65535), (0xFFFFFFFF, 0xFFFFFFFE, 65535, 65534)]:
         w = Writer()
