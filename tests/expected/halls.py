@@ -4,7 +4,7 @@ python3 tests/expected/halls.py
 
 It writes crates/halls_test/stdin, rows of seven little-endian u64 (what is called, what with, and how many bytes follow) and those bytes,
 and crates/halls_test/stdout. The answers come from a reader written here from document 01 (`pieces`). Where cargo and the original Rust are at
-hand (rust/oracle/README.md), the oracle is asked too, and the two must agree on every drawable. The Rust has no checks 1, 5 and 7: it is not asked
+hand (rust/differential/README.md), the oracle is asked too, and the two must agree on every drawable. The Rust has no checks 1, 5 and 7: it is not asked
 about drawables that 1 or 5 refuse, nor about lists of 64 MiB and more, and of the others the whole list is compared."""
 import collections
 import functools
@@ -350,7 +350,7 @@ def number_rows():
     """Fields at their least and greatest."""
     for binding, mask in [(0, 0), (0xFFFFFFFF, 0xFFFF), (0x80000001, 0x8001)]:
         w = Writer()
-        list_row(w.drawable(w.header([w.model([], binding=binding, mask=mask)])))
+        list_rows(w.drawable(w.header([w.model([], binding=binding, mask=mask)])))
     # indices, triangles, vertices, stride
     for numbers in [(0, 0, 0, 0), (0, 1, 2, 3), (1, 2, 3, 65535), (0xFFFFFFFF, 0xFFFFFFFE, 65535, 65534)]:
         w = Writer()
@@ -705,7 +705,7 @@ def ask_oracle():
         return
     cases = [drawable for drawable in drawables if read(drawable).check not in (1, 5) and read(drawable).needed < LIMIT]
     data = b"".join(struct.pack("<3Q", len(system), len(graphics), va) + system + graphics for system, graphics, va in cases)
-    command = ["cargo", "run", "--release", "--offline", "--quiet", "--manifest-path", "rust/oracle/Cargo.toml"]
+    command = ["cargo", "run", "--profile", "checked", "--offline", "--quiet", "--manifest-path", "rust/differential/oracle/Cargo.toml"]
     run = subprocess.run(command, input=data, stdout=subprocess.PIPE, check=True, env={**os.environ, "RAGE_FORMATS": original})
     found = run.stdout.decode().split("\n")[:-1]
     assert len(found) == len(cases)

@@ -31,7 +31,7 @@ pub record Told (o : Outcome) (d : List ℕ) (r : ℕ) (t : List ℕ) (n : ℕ) 
 unfoldable pub fitting : ℕ → List ℕ → Outcome
 fitting room b = cond (leb (length b) room) (written b) (refusal 10 (length b))
 
--- as many bytes as 64 bits may not hold: the greatest u64 then stands for those needed
+-- the same, where 64 bits may not hold the length: the greatest u64 then stands for it
 unfoldable pub fittingCapped : ℕ → List ℕ → Outcome
 fittingCapped room b = cond (leb (length b) room) (written b) (refusal 10 (min (length b) (2 ^ 64 - 1)))
 

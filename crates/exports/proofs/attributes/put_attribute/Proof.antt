@@ -5,11 +5,9 @@ use borrow.Author.Needs.{needs}
 use lib.ListN.{length}
 use Rattle.sections.specs.Edit.{overwrite}
 use Rattle.sections.specs.Le.{bytes}
-use Rattle.sections.proofs.EditLaws.{edited-fits}
+use Rattle.sections.proofs.EditLaws.{edited-behind, edited-fits, overwrite-behind}
 use Rattle.vertices.specs.Unified.{vec4Bytes}
-use Rattle.vertices.proofs.DeclarationLaws.{edited-behind}
 use Rattle.vertices.proofs.RunLaws.{length-run}
-use Rattle.vertices.proofs.UnifiedBytes.{overwrite-behind}
 use Rattle.exports.specs.Attributes.{attributeBytes}
 use Rattle.exports.proofs.attributes.put_attribute.Statement.{statement}
 use Rattle.exports.proofs.attributes.put_attribute.Tie as tie

@@ -3,9 +3,8 @@ use mathlib.Core.Path.{refl}
 use native.Mathlib.Omega.{arith}
 use borrow.Author.Needs.{needs}
 use Rattle.sections.specs.Le.{bytes}
-use Rattle.sections.proofs.EditLaws.{edited-fits}
+use Rattle.sections.proofs.EditLaws.{edited-behind, edited-fits}
 use Rattle.vertices.specs.Runs.{run}
-use Rattle.vertices.proofs.DeclarationLaws.{edited-behind}
 use Rattle.exports.proofs.attributes.put_words.Statement.{statement}
 use Rattle.exports.proofs.attributes.put_words.Tie as tie
 

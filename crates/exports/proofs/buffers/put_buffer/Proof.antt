@@ -4,7 +4,7 @@ use mathlib.Core.List.{_++_}
 use native.Mathlib.Omega.{arith}
 use borrow.Author.Needs.{needs}
 use Rattle.sections.specs.Le.{bytes}
-use Rattle.vertices.proofs.UnifiedBytes.{overwrite-behind}
+use Rattle.sections.proofs.EditLaws.{overwrite-behind}
 use Rattle.exports.specs.Buffers.{storedBytes, headBytes, placeBytes, bufferBytes}
 use Rattle.exports.proofs.buffers.put_buffer.Statement.{statement}
 use Rattle.exports.proofs.buffers.put_buffer.Tie as tie

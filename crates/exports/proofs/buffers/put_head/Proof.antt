@@ -6,8 +6,7 @@ use native.Mathlib.Omega.{arith}
 use borrow.Author.Needs.{needs}
 use Rattle.sections.specs.Edit.{overwrite}
 use Rattle.sections.specs.Le.{bytes}
-use Rattle.sections.proofs.EditLaws.{edited-fits}
-use Rattle.vertices.proofs.DeclarationLaws.{edited-behind}
+use Rattle.sections.proofs.EditLaws.{edited-behind, edited-fits}
 use Rattle.exports.proofs.buffers.put_head.Statement.{statement}
 use Rattle.exports.proofs.buffers.put_head.Tie as tie
 

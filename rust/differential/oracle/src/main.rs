@@ -3,7 +3,7 @@
 //! hexadecimal or `refused` with the check's number.
 use std::io::{self, BufWriter, Read, Write};
 
-use oracle::{read, Reading};
+use oracle::{list, models};
 
 fn main() -> io::Result<()> {
     let mut input = Vec::new();
@@ -18,9 +18,9 @@ fn main() -> io::Result<()> {
         let (system, after) = rest.split_at(system as usize);
         let (graphics, after) = after.split_at(graphics as usize);
         rest = after;
-        match read(system, graphics, va) {
-            Reading::List(bytes) => writeln!(output, "list {}", hexadecimal(&bytes))?,
-            Reading::Refused(check) => writeln!(output, "refused {check}")?,
+        match models(system, graphics, va) {
+            Ok(lod) => writeln!(output, "list {}", hexadecimal(&list::written(&lod.models)))?,
+            Err(check) => writeln!(output, "refused {check}")?,
         }
     }
     output.flush()

@@ -55,3 +55,10 @@ macro_rules! bail {
         return Err($crate::Error::msg(format!($($text)*)))
     };
 }
+
+#[macro_export]
+macro_rules! anyhow {
+    ($($text:tt)*) => {
+        $crate::Error::msg(format!($($text)*))
+    };
+}
