@@ -8,6 +8,7 @@ hand (rust/differential/README.md), the oracle is asked too, and the two must ag
 about drawables that 1 or 5 refuse, nor about lists of 64 MiB and more, and of the others the whole list is compared."""
 import collections
 import functools
+import itertools
 import os
 import random
 import shutil
@@ -125,6 +126,22 @@ def pieces(sections, va):
     return out
 
 
+def held(parts):
+    """How many indices a geometry's records hold."""
+    while parts:
+        length, kind = struct.unpack_from("<IH", parts)
+        if kind == 5:
+            return (length - 4) // 4
+        parts = parts[6 + length :]
+    return 0
+
+
+def triangles(found):
+    """The Rust's sum over geometries: the stored index count, or the indices held where that is 0, in threes."""
+    geometries = [(piece, parts) for piece, parts in zip(found, found[1:]) if piece and field(piece, 4, 2) == 2]
+    return sum((field(piece, 8, 4) or held(parts)) // 3 for piece, parts in geometries)
+
+
 # ---- rows
 
 
@@ -143,12 +160,12 @@ def read(drawable):
 
 
 def answer(drawable, room, whole):
-    """What the call says, the buffer's checksum afterwards, and a short list's bytes."""
+    """What the call says, the buffer's checksum afterwards, and an accepted list's triangles and, where it is short, its bytes."""
     check, found, needed = read(drawable)
     if check or needed > room:
         return " refused" + hexed(check or 7) + " needed" + hexed(needed) + hexed(checksum(whole))
     written = b"".join(found)
-    return " accepted" + hexed(needed, checksum(written + whole[needed:])) + (" " + written.hex() if needed <= 256 else "")
+    return " accepted" + hexed(needed, checksum(written + whole[needed:]), triangles(found)) + (" " + written.hex() if needed <= 256 else "")
 
 
 def row(kind, name, drawable, numbers, whole, data):
@@ -333,7 +350,7 @@ def number_rows():
     """Fields at their least and greatest."""
     for binding, mask in [(0, 0), (0xFFFFFFFF, 0xFFFF), (0x80000001, 0x8001)]:
         w = Writer()
-        list_row(w.drawable(w.header([w.model([], binding=binding, mask=mask)])))
+        list_rows(w.drawable(w.header([w.model([], binding=binding, mask=mask)])))
     # indices, triangles, vertices, stride
     for numbers in [(0, 0, 0, 0), (0, 1, 2, 3), (1, 2, 3, 65535), (0xFFFFFFFF, 0xFFFFFFFE, 65535, 65534)]:
         w = Writer()
@@ -489,6 +506,17 @@ def index_rows():
     for va in [0, *NOWHERE]:
         w = Writer()
         list_row(one_geometry(w, w.geometry(0, va)))
+
+
+def triangle_rows():
+    """Stored index counts beside indices held, in two models; a stored 0 gives way to what is held."""
+    for stored in itertools.product([0, 2, 3, 8, 0xFFFFFFFF], repeat=2):
+        for kept in itertools.product([None, 0, 3, 7], repeat=2):
+            w, models = Writer(), []
+            for indices, count in zip(stored, kept):
+                block = 0 if count is None else w.index_block(count, w.numbers("indices", "H", range(count)) if count else 0)
+                models.append(w.model([w.geometry(0, block, indices=indices), w.geometry(0, 0, indices=0)]))
+            list_row(w.drawable(w.header(models)))
 
 
 # ---- shared blocks
@@ -700,6 +728,7 @@ stream_rows()
 stream_end_rows()
 vertex_count_rows()
 index_rows()
+triangle_rows()
 aliased_rows()
 many_rows()
 enormous_rows()

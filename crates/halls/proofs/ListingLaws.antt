@@ -1,12 +1,11 @@
 -- What the hall list call comes to, from the models behind a list of pointers.
-use mathlib.Core.Path.{_≡_, refl, sym, ap, _∙_, subst}
-use mathlib.Core.Bool.{Bool, true, false, _&&_}
+use mathlib.Core.Path.{_≡_, refl, sym, ap, _∙_}
+use mathlib.Core.Bool.{true, false}
 use mathlib.Core.List.{List, []}
 use mathlib.Core.Option.{Option, none, some}
 use Prim.Native.Nat.{ℕ, _≤_, _<_}
 use native.Mathlib.Omega.{arith}
-use borrow.Author.Tests.{le-leb, lt-leb, leb-true}
-use lib.Dec.{T, leb}
+use borrow.Author.Tests.{le-leb, lt-leb}
 use lib.ListN.{length}
 use Rattle.sections.specs.Address.{Sections, resolved, withinLimit}
 use Rattle.sections.specs.Lists.{headerLength, foundHeader, headerAt}
@@ -70,16 +69,6 @@ pub shown : (x o : Outcome) (d : List ℕ) {r : Answer} {t : List ℕ} → x ≡
 shown x o d e p q = (p ∙ ap answerOf (sym e), q ∙ ap (λ (y : Outcome). after y d) (sym e))
 
 -- ---- the limit and the header
-
-both-true : (t u : Bool) → (t && u) ≡ true → (t ≡ true) × (u ≡ true)
-both-true true u e = (refl, e)
-both-true false u e = absurd (subst T (sym e) tt)
-
-pub limit-each : (s : Sections) → withinLimit s ≡ true → (length (s .system) ≤ 67108864) × (length (s .graphics) ≤ 67108864)
-unfolding withinLimit
-limit-each s e =
-    let b = both-true (leb (length (s .system)) 67108864) (leb (length (s .graphics)) 67108864) e in
-    (leb-true (length (s .system)) 67108864 (b .0), leb-true (length (s .graphics)) 67108864 (b .1))
 
 abbrev headerOr : PointerListHeader → FoundHeader → PointerListHeader
 headerOr default (Header h) = h

@@ -1,6 +1,5 @@
 -- The loop over the model pointers: what was read so far, and what is left to read.
 use mathlib.Core.Path.{_≡_, refl, sym, ap, _∙_}
-use mathlib.Core.Bool.{false}
 use mathlib.Core.List.{List, [], _∷_, _++_, append-nil}
 use Prim.Native.Nat.{ℕ, suc, _+_, _*_, _^_, _≤_, _<_}
 use native.Mathlib.Numerals.{add-one}
@@ -12,7 +11,7 @@ use lib.Seq.{drop-cons}
 use Rattle.sections.specs.Address.{Sections, resolved}
 use Rattle.halls.specs.List.{Model, each, writeModel, write}
 use Rattle.halls.specs.Blocks.{ModelBlock, modelBlock}
-use Rattle.halls.specs.Reading.{Reading, read, andThen, listAt, mappingOf, readGeometries, readModel, readModels}
+use Rattle.halls.specs.Reading.{Reading, read, andThen, listAt, mappingOf, readModel, readModels}
 use Rattle.halls.specs.Measure.{modelAt, measuredModel, measuredModels, geometriesIn}
 use Rattle.halls.specs.declared.measure.Measured.{Measured}
 use Rattle.halls.proofs.EachLaws.{each-snoc}

@@ -26,15 +26,18 @@ fn list_into<'a>(system: &'a [u8], graphics: &'a [u8], row: Row, list: &mut [u8]
     })
 }
 
-// The answer, the checksum of the whole buffer that the first d bytes were lent of, and the bytes of a list of at most 256.
+// The answer, the checksum of the whole buffer that the first d bytes were lent of, the triangles of an accepted list, and the
+// bytes of one of at most 256.
 fn answered(answer: Answer, list: &[u8]) {
     match answer {
         Answer::Accepted(length) => {
             text(b" accepted");
             number(length);
             number(checksum(list));
+            let written = first(list, length as usize);
+            number(halls::triangle_count(written));
             if length <= 256 {
-                bytes(first(list, length as usize));
+                bytes(written);
             }
         }
         Answer::Refused(refusal) => {

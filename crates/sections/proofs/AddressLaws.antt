@@ -1,5 +1,5 @@
 -- Laws of the lookup.
-use mathlib.Core.Path.{_≡_, refl, _∙_}
+use mathlib.Core.Path.{_≡_, refl, sym, subst, _∙_}
 use mathlib.Core.Bool.{Bool, true, false, cond, _&&_}
 use mathlib.Core.List.{List, []}
 use mathlib.Core.Logic.{_⊎_, inl, inr}
@@ -7,13 +7,28 @@ use mathlib.Core.Option.{Option, none, some, Option·getD}
 use Prim.Native.Nat.{ℕ, _+_, _-_, _/_, _%_, _^_, _≤_, _<_}
 use native.Mathlib.Omega.{arith}
 use borrow.Author.Tests.{eq-eqb, ne-eqb, eqb-true, leb-true}
-use lib.Dec.{eqb}
+use lib.Dec.{T, eqb, leb}
 use lib.ListN.{length}
 use Rattle.sections.specs.Edit.{part, fits}
-use Rattle.sections.specs.Address.{Sections, bit, bothSet, within, located, partOf, rangeOf, resolved}
+use Rattle.sections.specs.Address.{Sections, bit, bothSet, within, located, partOf, rangeOf, resolved, withinLimit}
 use Rattle.sections.proofs.EditLaws.{part-length}
 use Rattle.sections.specs.declared.lookup.Located.{Located}
 use Rattle.sections.specs.declared.lookup.Located.the-variants.{System, Graphics, Nothing}
+
+-- ---- check 1
+
+pub both-true : (t u : Bool) → (t && u) ≡ true → (t ≡ true) × (u ≡ true)
+both-true true u e = (refl, e)
+both-true false u e = absurd (subst T (sym e) tt)
+
+-- each section is within the limit where both are
+pub limit-each : (s : Sections) → withinLimit s ≡ true → (length (s .system) ≤ 67108864) × (length (s .graphics) ≤ 67108864)
+unfolding withinLimit
+limit-each s e =
+    let b = both-true (leb (length (s .system)) 67108864) (leb (length (s .graphics)) 67108864) e in
+    (leb-true (length (s .system)) 67108864 (b .0), leb-true (length (s .graphics)) 67108864 (b .1))
+
+-- ---- bits
 
 below : (x : ℕ) → x % 2 < 2
 below x = omega arith

@@ -7,8 +7,9 @@ use native.Mathlib.Nat.{add-assoc, add-zero, zero-add}
 use native.Mathlib.Numerals.{add-one}
 use native.Mathlib.Omega.{arith}
 use borrow.Author.Tests.{le-leb}
+use lib.Dec.{lit<}
 use lib.ListN.{length, take, drop, getD, set, length-append, length-take, length-drop, take-append-drop, drop-of-length-le}
-use lib.Seq.{length-take-le, append-snoc, take-all, take-nil, take-add, take-take, take-at, take-append-le, drop-at, drop-cons, drop-drop, drop-append-add, getD-take, getD-drop, set-split}
+use lib.Seq.{length-take-le, append-snoc, take-nil, take-add, take-take, take-at, take-append-le, drop-at, drop-cons, drop-drop, drop-append-add, getD-take, getD-drop, set-split}
 use Rattle.sections.specs.Edit.{part, overwrite, fits, Edited}
 
 -- ---- parts
@@ -28,11 +29,6 @@ module _ (s : List ℕ) where
   unfolding part
   part-getD at n i h = rw (getD-take, getD-drop)
 
-  -- the whole list
-  pub part-all : part s 0 (length s) ≡ s
-  unfolding part
-  part-all = take-all (length s) s (omega arith)
-
   -- one element
   pub part-one : (i : ℕ) → i < length s → part s i 1 ≡ getD s i 0 ∷ []
   unfolding part
@@ -49,6 +45,17 @@ module _ (s : List ℕ) where
   part-part at n i k h =
       let m : k ≤ n - i = omega arith in
       rw (drop-take i n (drop at s), take-take k (n - i) (drop i (drop at s)), drop-drop i at s)
+
+-- the first elements of bytes are bytes, and so is each part
+pub take-below : (n : ℕ) (l : List ℕ) → ((i : ℕ) → getD l i 0 < 256) → (i : ℕ) → getD (take n l) i 0 < 256
+take-below zero l f i = lit< tt
+take-below (suc n) [] f i = lit< tt
+take-below (suc n) (x ∷ l) f zero = f 0
+take-below (suc n) (x ∷ l) f (suc i) = take-below n l (λ j. f (suc j)) i
+
+pub part-below : (s : List ℕ) (at n : ℕ) → ((i : ℕ) → getD s i 0 < 256) → (i : ℕ) → getD (part s at n) i 0 < 256
+unfolding part
+part-below s at n f i = take-below n (drop at s) (λ j. rw (getD-drop at s j 0) (f (at + j))) i
 
 -- ---- overwriting
 
@@ -137,3 +144,17 @@ edited-yes e h = record { answer = sym e; bytes = rw e h }
 -- what an edit that fits leaves
 pub edited-fits : {s : List ℕ} {at : ℕ} (n : ℕ) {vs : List ℕ} {r : Bool} {t : List ℕ} → Edited (fits s at n) s at vs r t → at + n ≤ length s → t ≡ overwrite s at vs
 edited-fits {s} {at} n e h = rw (le-leb (at + n) (length s) h) at (e .bytes)
+
+-- ---- one edit right behind another is one edit with it
+
+-- for lists that are known by equations
+pub overwrite-behind : (s : List ℕ) (at : ℕ) (xs : List ℕ) (n : ℕ) (ys : List ℕ) {t u : List ℕ} → t ≡ overwrite s at xs → length xs ≡ n → u ≡ overwrite t (at + n) ys → at + n + length ys ≤ length s
+    → u ≡ overwrite s at (xs ++ ys)
+overwrite-behind s at xs n ys e l f h = f ∙ ap (λ (x : List ℕ). overwrite x (at + n) ys) e ∙ overwrite-then s at n xs ys l h
+
+-- for a total edit of k bytes
+pub edited-behind : (s : List ℕ) (at : ℕ) (xs : List ℕ) (n k : ℕ) {t u ys : List ℕ} {r : Bool} → t ≡ overwrite s at xs → length xs ≡ n → length ys ≡ k
+    → Edited (fits t (at + n) k) t (at + n) ys r u → at + (n + k) ≤ length s → u ≡ overwrite s at (xs ++ ys)
+edited-behind s at xs n k {t} {u} {ys} e lx ly ed h =
+    let same : length t ≡ length s = ap length e ∙ overwrite-length s at xs (omega arith) in
+    overwrite-behind s at xs n ys e lx (edited-fits k ed (omega arith)) (omega arith)

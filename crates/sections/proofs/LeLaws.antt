@@ -1,16 +1,17 @@
 -- Laws of little-endian numbers, over the width.
-use mathlib.Core.Path.{_≡_, refl, ap, _∙_}
+use mathlib.Core.Path.{_≡_, refl, sym, ap, _∙_}
+use mathlib.Core.Bool.{Bool, true, false, cond}
 use mathlib.Core.List.{List, [], _∷_, _++_}
 use Prim.Native.Nat.{ℕ, zero, suc, _+_, _*_, _/_, _%_, _^_, _≤_, _<_}
 use native.Mathlib.Nat.{mul-assoc, pow-suc, pow-succ', pow-zero, div-div-eq-div-mul, zero-add, suc-add, div-one, one-le-pow}
 use native.Mathlib.Omega.{arith}
-use borrow.Author.Tests.{le-leb, lt-leb}
+use borrow.Author.Tests.{le-leb, lt-leb, leb-true}
 use lib.Arith.{mod-mul, digits-mod, digits-div}
 use lib.Dec.{lit<}
 use lib.ListN.{length, getD, set}
-use Rattle.sections.specs.Edit.{part, overwrite}
+use Rattle.sections.specs.Edit.{part, overwrite, fits}
 use Rattle.sections.specs.Le.{le, bytes, field}
-use Rattle.sections.proofs.EditLaws.{part-length, part-add, part-one, part-same, overwrite-one, overwrite-length, overwrite-then}
+use Rattle.sections.proofs.EditLaws.{part-length, part-add, part-one, part-below, part-same, overwrite-one, overwrite-length, overwrite-then}
 
 -- ---- bytes to a number
 
@@ -102,6 +103,20 @@ field-put k s at v h l =
     let fit : at + length (bytes k v) ≤ length s = omega arith in
     let whole : at + k ≤ length (overwrite s at (bytes k v)) = rw (overwrite-length s at (bytes k v) fit) l in
     rw (field-in k (overwrite s at (bytes k v)) at whole, part-same s at (bytes k v) fit k n) (le-bytes k v h)
+
+-- the bytes of a field are those that it was read from
+pub field-bytes : (k : ℕ) (s : List ℕ) (at : ℕ) → ((i : ℕ) → getD s i 0 < 256) → at + k ≤ length s → bytes k (field k s at) ≡ part s at k
+field-bytes k s at f h =
+    rw (field-in k s at h) (ap (λ (n : ℕ). bytes n (le (part s at k))) (sym (part-length s at k h)) ∙ bytes-le (part s at k) (part-below s at k f))
+
+-- a field of bytes fits its width
+pub field-bound : (k : ℕ) (s : List ℕ) (at : ℕ) → ((i : ℕ) → getD s i 0 < 256) → field k s at < 256 ^ k
+unfolding field
+field-bound k s at f = whether (fits s at k) refl
+  where
+    whether : (b : Bool) → fits s at k ≡ b → cond b (le (part s at k)) 0 < 256 ^ k
+    whether true e = rw (part-length s at k (leb-true (at + k) (length s) e)) at (le-bound (part s at k) (part-below s at k f))
+    whether false e = one-le-pow k 256 (lit< tt)
 
 -- a byte is a field of width 1
 pub field-one : (s : List ℕ) (at : ℕ) → at < length s → field 1 s at ≡ getD s at 0

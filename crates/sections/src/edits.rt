@@ -1,7 +1,7 @@
 // Copies, moves and zeroing in a byte slice. An edit whose range does not fit changes nothing and answers false.
 //
-// Bytes travel by way of a local block: a copy between two lent slices may overlap for all the compiler knows, and one to
-// or from a local array may not, so each becomes a memcpy.
+// Bytes are copied through a local block: as far as the compiler can tell two lent slices may overlap, and a local array
+// overlaps neither, so that each copy becomes a memcpy.
 ghost use mathlib.Core.Path.{_≡_};
 ghost use mathlib.Core.Bool.{_&&_};
 ghost use Prim.Native.Nat.{_+_, _≤_};
@@ -119,7 +119,7 @@ fn move_block(buf: &mut [u8], from: usize, to: usize, k: usize)
     copy_bytes(buf, to, &block, 0, k);
 }
 
-// A function of its own, so that proofs know the block by its length and not by 4,096 zeros.
+// A function of its own, whose contract gives the length only: so no proof contains 4,096 zeros.
 fn empty_block() -> [u8; BLOCK]
     ensures { λ r. ⌜ length r ≡ 4096 ⌝ }
 {

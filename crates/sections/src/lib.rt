@@ -30,3 +30,4 @@ pub use lookup::bytes_of;
 pub use lookup::locate;
 pub use lookup::resolve;
 pub use lookup::within_limit;
+pub use range::ends_inside;

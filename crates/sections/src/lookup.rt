@@ -32,7 +32,7 @@ pub fn within_limit<'a>(system: &'a [u8], graphics: &'a [u8]) -> bool
     true
 }
 
-// Where the len bytes behind an address lie. Bits are tested with / and %, whose meaning the proof reads off.
+// Where the len bytes behind an address lie. Bits are tested with >> and %.
 pub fn locate<'a>(system: &'a [u8], graphics: &'a [u8], va: u64, len: usize) -> Located
     ensures { λ r. ⌜ r ≡ located (sections (now (system .entry)) (now (graphics .entry))) va len ⌝ }
 {
@@ -55,8 +55,8 @@ pub fn locate<'a>(system: &'a [u8], graphics: &'a [u8], va: u64, len: usize) -> 
     Located::Nothing
 }
 
-// The len bytes at a place as one slice, so that a reader never asks for the section again; none where they do not end
-// inside it. Both sections have one lifetime, since either may be handed back.
+// The len bytes at a place as one slice, so that a reader need not know the section; none where they do not end inside
+// it. Both sections have one lifetime, since either may be returned.
 pub fn bytes_of<'a>(system: &'a [u8], graphics: &'a [u8], place: Located, len: usize) -> &'a [u8]
     ensures { λ r. ⌜ now r ≡ Option·getD (rangeOf (sections (now (system .entry)) (now (graphics .entry))) place len) [] ⌝ }
 {

@@ -1,29 +1,20 @@
 -- The 16 bytes of a declaration, written and read back, read and written back; the widths of its numbers; its id.
 use mathlib.Core.Path.{_≡_, refl, sym, ap, _∙_}
 use mathlib.Core.Bool.{Bool, true, false, cond}
-use mathlib.Core.List.{List, [], _∷_, _++_}
+use mathlib.Core.List.{List}
 use Prim.Native.Nat.{ℕ, zero, suc, _+_, _*_, _-_, _/_, _%_, _^_, _≤_, _<_}
-use native.Mathlib.Nat.{add-zero, one-le-pow}
+use native.Mathlib.Nat.{add-zero}
 use native.Mathlib.Omega.{arith}
-use borrow.Author.Tests.{leb-true}
 use lib.Dec.{lit<}
-use lib.ListN.{length, getD, take, drop}
-use lib.Seq.{getD-drop}
-use Rattle.sections.specs.Edit.{part, overwrite, fits, Edited}
+use lib.ListN.{length, getD}
+use Rattle.sections.specs.Edit.{part, overwrite}
 use Rattle.sections.specs.Le.{le, bytes, field}
-use Rattle.sections.proofs.EditLaws.{edited-fits, overwrite-all, overwrite-length, overwrite-then, part-add, part-length, part-part, part-same}
-use Rattle.sections.proofs.LeLaws.{bytes-le, field-in, le-bound, le-bytes}
+use Rattle.sections.proofs.EditLaws.{overwrite-all, overwrite-length, part-add, part-part, part-same}
+use Rattle.sections.proofs.LeLaws.{field-bound, field-bytes, field-in, le-bytes}
 use Rattle.vertices.specs.Declaration.{declarationAt, declarationBytes, idFrom, InWidth, odd, positionOnly}
 use Rattle.vertices.specs.declared.declaration.VertexDeclaration.{VertexDeclaration}
 
 -- ---- writing
-
--- an edit right behind n bytes that were written makes one edit with them
-pub edited-behind : (s : List ℕ) (at : ℕ) (xs : List ℕ) (n k : ℕ) {t u ys : List ℕ} {r : Bool} → t ≡ overwrite s at xs → length xs ≡ n → length ys ≡ k
-    → Edited (fits t (at + n) k) t (at + n) ys r u → at + (n + k) ≤ length s → u ≡ overwrite s at (xs ++ ys)
-edited-behind s at xs n k {t} {u} {ys} e lx ly ed h =
-    let same : length t ≡ length s = ap length e ∙ overwrite-length s at xs (omega arith) in
-    edited-fits k ed (omega arith) ∙ ap (λ (l : List ℕ). overwrite l (at + n) ys) e ∙ overwrite-then s at n xs ys lx (omega arith)
 
 -- a declaration is 16 bytes
 pub declaration-length : (d : VertexDeclaration) → length (declarationBytes d) ≡ 16
@@ -58,22 +49,6 @@ declaration-inverse d w =
 
 -- ---- writing what was read
 
-take-below : (n : ℕ) (l : List ℕ) → ((i : ℕ) → getD l i 0 < 256) → (i : ℕ) → getD (take n l) i 0 < 256
-take-below zero l f i = lit< tt
-take-below (suc n) [] f i = lit< tt
-take-below (suc n) (x ∷ l) f zero = f 0
-take-below (suc n) (x ∷ l) f (suc i) = take-below n l (λ j. f (suc j)) i
-
--- each element of a part of bytes is a byte
-pub part-below : (s : List ℕ) (at n : ℕ) → ((i : ℕ) → getD s i 0 < 256) → (i : ℕ) → getD (part s at n) i 0 < 256
-unfolding part
-part-below s at n f i = take-below n (drop at s) (λ j. rw (getD-drop at s j 0) (f (at + j))) i
-
--- the bytes of a field are those that it was read from
-pub field-bytes : (k : ℕ) (s : List ℕ) (at : ℕ) → ((i : ℕ) → getD s i 0 < 256) → at + k ≤ length s → bytes k (field k s at) ≡ part s at k
-field-bytes k s at f h =
-    rw (field-in k s at h) (ap (λ (n : ℕ). bytes n (le (part s at k))) (sym (part-length s at k h)) ∙ bytes-le (part s at k) (part-below s at k f))
-
 -- the bytes of a declaration that was read are those that it was read from
 pub declaration-written-back : (s : List ℕ) (at : ℕ) → ((i : ℕ) → getD s i 0 < 256) → at + 16 ≤ length s → declarationBytes (declarationAt s at) ≡ part s at 16
 unfolding declarationAt declarationBytes
@@ -82,15 +57,6 @@ declaration-written-back s at f h =
     rw (field-bytes 4 s at f (omega arith), b 2 4 (omega arith), b 1 6 (omega arith), b 1 7 (omega arith), b 8 8 (omega arith), ← part-add s at 4 2, ← part-add s at 6 1, ← part-add s at 7 1, ← part-add s at 8 8)
 
 -- ---- widths
-
--- a field of bytes fits its width
-pub field-bound : (k : ℕ) (s : List ℕ) (at : ℕ) → ((i : ℕ) → getD s i 0 < 256) → field k s at < 256 ^ k
-unfolding field
-field-bound k s at f = whether (fits s at k) refl
-  where
-    whether : (b : Bool) → fits s at k ≡ b → cond b (le (part s at k)) 0 < 256 ^ k
-    whether true e = rw (part-length s at k (leb-true (at + k) (length s) e)) at (le-bound (part s at k) (part-below s at k f))
-    whether false e = one-le-pow k 256 (lit< tt)
 
 -- the numbers of a declaration that was read from bytes fit their widths
 pub declaration-in-width : (s : List ℕ) (at : ℕ) → ((i : ℕ) → getD s i 0 < 256) → InWidth (declarationAt s at)

@@ -10,7 +10,7 @@ use lib.Dec.{T, eqb, lit<}
 use lib.ListN.{length, getD, length-map}
 use Rattle.sections.specs.Edit.{overwrite, fits, Edited}
 use Rattle.sections.specs.Le.{bytes, field}
-use Rattle.sections.proofs.EditLaws.{edited-fits, overwrite-length, overwrite-none, overwrite-then, part-same}
+use Rattle.sections.proofs.EditLaws.{edited-fits, overwrite-behind, overwrite-length, overwrite-none, part-same}
 use Rattle.sections.proofs.LeLaws.{length-bytes}
 use Rattle.vertices.specs.Types.{sizeOf}
 use Rattle.vertices.specs.Runs.{numbers, run}
@@ -87,14 +87,14 @@ pub runs-join : (k : ℕ) (s : List ℕ) (at n : ℕ) (xs ys : List ℕ) {t u : 
 runs-join k s at n xs ys e f g h =
     let l : length (run k xs) ≡ n * k = length-run k xs ∙ ap (λ (m : ℕ). m * k) e in
     let m : at + n * k + length (run k ys) ≤ length s = rw length-run (omega arith) in
-    g ∙ ap (λ (w : List ℕ). overwrite w (at + n * k) (run k ys)) f ∙ rw (run-append k xs ys) (overwrite-then s at (n * k) (run k xs) (run k ys) l m)
+    overwrite-behind s at (run k xs) (n * k) (run k ys) f l g m ∙ ap (overwrite s at) (sym (run-append k xs ys))
 
 -- two numbers, one behind the other
 pub two-join : (k : ℕ) (s : List ℕ) (at x y : ℕ) {t u : List ℕ} → t ≡ overwrite s at (bytes k x) → u ≡ overwrite t (at + k) (bytes k y) → at + 2 * k ≤ length s → u ≡ overwrite s at (run k (x ∷ y ∷ []))
 unfolding run
 two-join k s at x y f g h =
     let m : at + k + length (bytes k y) ≤ length s = rw length-bytes (omega arith) in
-    g ∙ ap (λ (w : List ℕ). overwrite w (at + k) (bytes k y)) f ∙ rw append-nil (overwrite-then s at k (bytes k x) (bytes k y) (length-bytes k x) m)
+    rw append-nil (overwrite-behind s at (bytes k x) k (bytes k y) f (length-bytes k x) g m)
 
 -- ---- what is written
 

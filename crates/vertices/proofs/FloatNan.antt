@@ -9,7 +9,7 @@ use lib.Ieee.Bits.{nanBits-is, cond-no}
 use Rattle.vertices.specs.Normalised.{number}
 use Rattle.vertices.proofs.FloatRounding.{round-not-nan}
 
--- the test that bits are no NaN's, as reading them as a float asks for it
+-- the test that bits are no NaN's, as reading them as a float requires it
 pub not-nan-bits : (b : ℕ) → nanBits binary32 b ≡ false → T (not (nanBits binary32 b))
 not-nan-bits b h = rw h tt
 

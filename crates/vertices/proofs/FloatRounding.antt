@@ -1,4 +1,4 @@
--- What `round` gives, whatever it rounds: no NaN, the sign that it is told, and zero for zero. Assumes nothing.
+-- What `round` gives, whatever it rounds: no NaN, the sign that it is given, and zero for zero. Assumes nothing.
 use mathlib.Core.Path.{_≡_, refl, sym, _∙_}
 use mathlib.Core.Bool.{Bool, true, false, not, cond}
 use Prim.Native.Nat.{ℕ, zero, suc, _+_, _*_, _/_, _^_, _<_}

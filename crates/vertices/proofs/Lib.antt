@@ -18,6 +18,7 @@ pub mod NormalisedRoundTrip
 pub mod NormalisedSigned
 pub mod RunLaws
 pub mod RunLoops
+pub mod ByteRunLaws
 pub mod RegularLaws
 pub mod TypeLaws
 pub mod DeclarationLaws

@@ -4,21 +4,13 @@ use mathlib.Core.List.{List, [], _∷_, _++_, append-assoc, append-nil, map-appe
 use Prim.Native.Nat.{ℕ, zero, suc, _+_, _*_, _^_, _≤_, _<_}
 use native.Mathlib.Nat.{add-comm, mul-le-mul-right, suc-add, suc-mul, zero-add, zero-mul}
 use native.Mathlib.Omega.{arith}
-use lib.Dec.{lit<}
 use lib.ListN.{length, take, drop, getD, length-append, length-drop, length-map}
 use lib.Seq.{drop-at, drop-drop, getD-drop, length-take-le, take-add, take-at}
 use Rattle.sections.specs.Edit.{part}
 use Rattle.sections.specs.Le.{le, bytes, field}
-use Rattle.sections.proofs.EditLaws.{part-part}
+use Rattle.sections.proofs.EditLaws.{part-part, take-below}
 use Rattle.sections.proofs.LeLaws.{bytes-le, field-in, le-add, le-bytes, le-one, length-bytes}
 use Rattle.vertices.specs.Runs.{numbers, run, converted}
-
--- a part of bytes is bytes
-take-bound : (k : ℕ) (s : List ℕ) → ((i : ℕ) → getD s i 0 < 256) → (i : ℕ) → getD (take k s) i 0 < 256
-take-bound zero s f i = lit< tt
-take-bound (suc k) [] f i = lit< tt
-take-bound (suc k) (x ∷ s) f zero = f 0
-take-bound (suc k) (x ∷ s) f (suc i) = take-bound k s (λ j. f (suc j)) i
 
 -- ---- bytes of numbers
 
@@ -84,7 +76,7 @@ module _ (k : ℕ) where
   run-numbers (suc n) s f h =
       let h′ : n * k + k ≤ length s = rw suc-mul at h in
       let l : length (take k s) ≡ k = length-take-le k s (omega arith) in
-      let b : bytes k (le (take k s)) ≡ take k s = rw l at (bytes-le (take k s) (take-bound k s f)) in
+      let b : bytes k (le (take k s)) ≡ take k s = rw l at (bytes-le (take k s) (take-below k s f)) in
       let r : n * k ≤ length (drop k s) = rw length-drop (omega arith) in
       rw (suc-mul, add-comm (n * k) k, take-add k (n * k) s, b, run-numbers n (drop k s) (λ i. rw getD-drop (f (k + i))) r)
 

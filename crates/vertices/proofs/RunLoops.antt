@@ -160,6 +160,6 @@ module _ {k : ℕ} {f : ℕ → ℕ} {s : List ℕ} {first n : ℕ} {xs : List �
 
 -- ---- the largest of a row
 
--- a bound of the first i, raised where the next asks for it, is one of the first i + 1
+-- a bound of the first i, raised where the next is larger, is one of the first i + 1
 pub bound-one : (g : ℕ → ℕ) {i a b : ℕ} → ((j : ℕ) → j < i → g j ≤ a) → a ≤ b → g i ≤ b → (j : ℕ) → j < i + 1 → g j ≤ b
 bound-one g {i} {b = b} below h here = below-more (λ j. g j ≤ b) i (λ j l. le-trans (below j l) h) here

@@ -1,39 +1,24 @@
 -- A subnormal half's float by way of a cast: its bits as a whole number, made a float, with the exponent 24 less.
 use mathlib.Core.Path.{_≡_}
-use mathlib.Core.Bool.{Bool, true, _&&_, not}
+use mathlib.Core.Bool.{Bool, _&&_, not}
 use Prim.Native.Nat.{ℕ, zero, suc, _+_, _<_}
-use native.Mathlib.Nat.{eq-or-lt-of-le, le-of-suc-le-suc, not-suc-le-zero}
+use native.Mathlib.Nat.{not-suc-le-zero}
 use native.Mathlib.Omega.{arith}
-use mathlib.Core.Logic.{inl, inr}
 use lib.Count.{leadingZeros}
 use lib.Dec.{T, eqb, eqb→eq}
 use lib.Ieee.{binary32, inFloat, isNan, ofInt, toBits}
 use lib.Ieee.Fits.{and-l, and-r}
 use lib.IntN.{pos}
 use Rattle.vertices.specs.Half.{decoded}
-
--- p holds of every number below n
-every : (ℕ → Bool) → ℕ → Bool
-every p zero = true
-every p (suc n) = p n && every p n
-
--- and so of each
-every-at : (p : ℕ → Bool) (n : ℕ) → T (every p n) → (i : ℕ) → i < n → T (p i)
-unfolding every
-every-at p zero t i h = absurd (not-suc-le-zero h)
-every-at p (suc n) t i h =
-    elim (eq-or-lt-of-le (le-of-suc-le-suc h)) [
-      | inl e ↦ rw e (and-l (p n) (every p n) t)
-      | inr l ↦ every-at p n (and-r (p n) (every p n) t) i l
-    ]
+use Rattle.vertices.proofs.AllBelow.{allBelow, each}
 
 -- the cast of i + 1 is exact and no NaN, and its bits are those of the half's float with an exponent 24 higher
 right : ℕ → Bool
 right i =
     inFloat binary32 (pos (suc i)) && (not (isNan (ofInt binary32 (pos (suc i)))) && eqb (toBits binary32 (ofInt binary32 (pos (suc i)))) (decoded (suc i) + 201326592))
 
-all-right : T (every right 1023)
-unfolding every right inFloat isNan ofInt toBits decoded leadingZeros
+all-right : T (allBelow right 1023)
+unfolding right inFloat isNan ofInt toBits decoded leadingZeros
 all-right = tt
 
 -- what holds of the cast of a subnormal half's bits, m
@@ -47,7 +32,7 @@ pub cast-subnormal : (m : ℕ) → 0 < m → m < 1024 → CastSubnormal m
 unfolding right
 cast-subnormal zero h l = absurd (not-suc-le-zero h)
 cast-subnormal (suc i) h l =
-    let t = every-at right 1023 all-right i (omega arith) in
+    let t = each right 1023 all-right i (omega arith) in
     let a = inFloat binary32 (pos (suc i)) in
     let b = not (isNan (ofInt binary32 (pos (suc i)))) in
     let e = eqb (toBits binary32 (ofInt binary32 (pos (suc i)))) (decoded (suc i) + 201326592) in

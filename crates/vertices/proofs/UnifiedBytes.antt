@@ -8,7 +8,7 @@ use native.Mathlib.Omega.{arith}
 use lib.ListN.{length, set, length-append}
 use Rattle.sections.specs.Edit.{overwrite}
 use Rattle.sections.specs.Le.{bytes}
-use Rattle.sections.proofs.EditLaws.{overwrite-length, overwrite-then}
+use Rattle.sections.proofs.EditLaws.{overwrite-behind, overwrite-length, overwrite-then}
 use Rattle.sections.proofs.LeLaws.{length-bytes, one-store}
 use Rattle.vertices.specs.Runs.{run}
 use Rattle.vertices.specs.Unified.{vec2Bytes, vec3Bytes, vec4Bytes, bytes4Bytes, unifiedBytes, runOf, unifiedRun}
@@ -38,11 +38,6 @@ unfolding unifiedRun
 length-unified-run d s stride count = length-run-of _ count ∙ mul-comm count 84
 
 -- ---- one behind the other
-
--- bytes, and then bytes right behind them
-pub overwrite-behind : (s : List ℕ) (at : ℕ) (xs : List ℕ) (n : ℕ) (ys : List ℕ) {t u : List ℕ} → t ≡ overwrite s at xs → length xs ≡ n → u ≡ overwrite t (at + n) ys → at + n + length ys ≤ length s
-    → u ≡ overwrite s at (xs ++ ys)
-overwrite-behind s at xs n ys e l f h = f ∙ ap (λ (x : List ℕ). overwrite x (at + n) ys) e ∙ overwrite-then s at n xs ys l h
 
 module _ (k : ℕ) where
   -- t with the numbers of a list written, k bytes each, the first at the place of the number with the index i

@@ -1,6 +1,6 @@
--- Check 9: the last vertex decides, by the sum of the component sizes.
+-- Check 9: it is enough to test the last vertex, by the sum of the component sizes.
 use mathlib.Core.Path.{_≡_, refl, sym, ap, _∙_}
-use mathlib.Core.Bool.{Bool, true, false, cond, _&&_}
+use mathlib.Core.Bool.{Bool, true, false, cond}
 use mathlib.Core.List.{List, [], _∷_}
 use mathlib.Core.Logic.{⊎-elim}
 use Prim.Native.Nat.{ℕ, zero, suc, _+_, _-_, _*_, _/_, _%_, _≤_, _<_}
@@ -9,6 +9,7 @@ use native.Mathlib.Omega.{arith}
 use borrow.Author.Tests.{eq-eqb, ne-eqb, le-leb, leb-true}
 use lib.Dec.{eqb, leb}
 use lib.ListN.{length}
+use Rattle.sections.proofs.AddressLaws.{both-true}
 use Rattle.vertices.specs.Types.{componentType, sizeOf}
 use Rattle.vertices.specs.Declaration.{componentAt, componentsFrom, componentsOf, odd, sizes, totalSize}
 use Rattle.vertices.specs.Attribute.{componentInside, allInside}
@@ -83,10 +84,6 @@ true-one : (n base : ℕ) (c : VertexComponent) → c .size ≡ sizeOf (c .«com
 true-one n base c s f =
     rw (← s) (⊎-elim (λ z. rw (eq-eqb (c .size) 0 z)) (λ p. rw (ne-eqb (c .size) 0 (λ z. omega arith), le-leb (base + c .offset + c .size) n (f p))) (eq-zero-or-pos (c .size)))
 
-both-true : (a b : Bool) → a && b ≡ true → (a ≡ true) × (b ≡ true)
-both-true true b e = (refl, e)
-both-true false b e = let z : _≡_ {A = ℕ} 0 1 = cc in absurd (omega arith)
-
 -- what the test of one vertex says
 pub all-true : (n base : ℕ) (cs : List VertexComponent) → Sized cs → allInside n base cs ≡ true → Within cs base n
 unfolding allInside
@@ -132,7 +129,7 @@ module _ (d : VertexDeclaration) (n stride : ℕ) where
       true-vertices count (λ k b i f p. let m : k * stride ≤ (count - 1) * stride = mul-le-mul-right stride (omega arith) in
       omega (arith, component-within d i f))
 
-  -- the last vertex tells
+  -- all inside: the last vertex is
   pub last-vertex : (count : ℕ) → 0 < count → 0 < totalSize d → verticesInside d n stride count ≡ true → (count - 1) * stride + totalSize d ≤ n
   last-vertex count h p e =
       let w : Within (componentsOf d) ((count - 1) * stride) n = vertices-true count e (count - 1) (omega arith) in

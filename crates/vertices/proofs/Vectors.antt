@@ -1,4 +1,4 @@
--- The test vectors of document 01 (its starred soundings) that speak of single numbers, proved by one computation over the whole list.
+-- The test vectors of document 01 (its starred soundings) that are about single numbers, proved by one computation over the whole list.
 use mathlib.Core.Path.{_≡_}
 use mathlib.Core.Bool.{Bool, true, false, cond, _&&_}
 use mathlib.Core.List.{List, [], _∷_}

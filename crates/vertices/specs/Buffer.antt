@@ -38,7 +38,7 @@ declarationIn (some b) = Declaration (declarationAt b 0)
 unfoldable pub storedDeclaration : Sections → ℕ → StoredDeclaration
 storedDeclaration s info = declarationIn (resolved s info 16)
 
--- what reading goes by: `position_only` of the buffer's stride where none is stored
+-- the declaration that vertices are read by: `position_only` of the buffer's stride where none is stored
 abbrev pub orPositionOnly : StoredDeclaration → ℕ → VertexDeclaration
 orPositionOnly (Declaration d) stride = d
 orPositionOnly Absent stride = positionOnly stride

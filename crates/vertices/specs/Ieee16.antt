@@ -1,4 +1,4 @@
--- What IEEE 754 asks of the conversions between halves and floats. `proofs/HalfLaws.antt` proves it of `f16ToF32` and `f32ToF16`.
+-- What IEEE 754 requires of the conversions between halves and floats. `proofs/HalfLaws.antt` proves it of `f16ToF32` and `f32ToF16`.
 use mathlib.Core.Path.{_≡_}
 use mathlib.Core.Bool.{cond}
 use Prim.Native.Nat.{ℕ, _+_, _-_, _*_, _/_, _%_, _^_, _≤_, _<_}

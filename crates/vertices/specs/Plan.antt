@@ -1,4 +1,4 @@
--- The component behind each field of a unified vertex, found once for all vertices. Only private functions speak of it.
+-- The component behind each field of a unified vertex, found once for all vertices. Only private functions use it.
 use mathlib.Core.Path.{_≡_}
 use mathlib.Core.List.{List}
 use Prim.Native.Nat.{ℕ, _+_, _≤_, _<_}

@@ -1,4 +1,4 @@
--- Which halves and floats are converted in blocks: zeros and normal numbers. Only private functions speak of it.
+-- Which halves and floats are converted in blocks: zeros and normal numbers. Only private functions use it.
 use mathlib.Core.Bool.{cond}
 use Prim.Native.Nat.{ℕ, _*_, _%_, _^_}
 use lib.Dec.{eqb, ltb}

@@ -7,8 +7,9 @@ ghost use lib.ListN.{length};
 ghost use Rattle.vertices.specs.Types.{sizeOf};
 ghost use Rattle.vertices.specs.Normalised.{unorm8ToF32};
 ghost use Rattle.vertices.specs.Declaration.{componentsOf};
-ghost use Rattle.vertices.specs.Attribute.{componentInside, attributeAt, emptyAttribute, attributeList, attributesAt, attributesOf, floatAt, halfAt, snormAt, twoAt, threeAt, fourAt, bytesAt, valueAt, asVec2, asVec3, asVec4, colourOf, asRgba8};
+ghost use Rattle.vertices.specs.Attribute.{componentInside, attributeAt, emptyAttribute, attributeList, attributesAt, attributesOf, floatAt, halfAt, snormAt, twoAt, threeAt, fourAt, bytesAt, valueAt, asVec2, asVec3, asVec4, colourOf, white, asRgba8};
 use crate::declaration::VertexDeclaration;
+use crate::declaration::empty_component;
 use crate::halves::f16_to_f32;
 use crate::known::u8_at;
 use crate::known::u16_at;
@@ -19,12 +20,13 @@ use crate::normalised::snorm8_to_f32;
 use crate::normalised::unorm8_to_f32;
 use crate::types::VertexComponent;
 use crate::types::VertexComponentType;
-use crate::types::VertexSemantic;
 use crate::values::Bytes4;
 use crate::values::F32;
+use crate::values::ONE;
 use crate::values::Vec2;
 use crate::values::Vec3;
 use crate::values::Vec4;
+use crate::values::ZERO;
 
 // One to four floats, or four bytes; unsupported where the type has no size.
 pub enum VertexAttributeValue {
@@ -48,22 +50,18 @@ pub struct VertexAttributes {
     pub count: usize,
 }
 
-const ZERO: F32 = F32 { bits: 0 };
-
-const ONE: F32 = F32 { bits: 0x3F80_0000 };
-
 // Seen as a vector, what is missing is 0, a missing w is 1.0, and a byte is divided by 255. An unsupported value is zero in every place.
 impl VertexAttributeValue {
     pub fn as_vec2(self) -> Vec2
         ensures { λ r. ⌜ r ≡ asVec2 self ⌝ }
     {
         match self {
-            VertexAttributeValue::One(f) => vec2(f, ZERO),
+            VertexAttributeValue::One(f) => Vec2::new(f, ZERO),
             VertexAttributeValue::Two(v) => v,
-            VertexAttributeValue::Three(v) => vec2(v.x, v.y),
-            VertexAttributeValue::Four(v) => vec2(v.x, v.y),
-            VertexAttributeValue::Bytes(b) => vec2(unorm(b.a), unorm(b.b)),
-            VertexAttributeValue::Unsupported => vec2(ZERO, ZERO),
+            VertexAttributeValue::Three(v) => Vec2::new(v.x, v.y),
+            VertexAttributeValue::Four(v) => Vec2::new(v.x, v.y),
+            VertexAttributeValue::Bytes(b) => Vec2::new(unorm(b.a), unorm(b.b)),
+            VertexAttributeValue::Unsupported => Vec2::new(ZERO, ZERO),
         }
     }
 
@@ -71,12 +69,12 @@ impl VertexAttributeValue {
         ensures { λ r. ⌜ r ≡ asVec3 self ⌝ }
     {
         match self {
-            VertexAttributeValue::One(f) => vec3(f, ZERO, ZERO),
-            VertexAttributeValue::Two(v) => vec3(v.x, v.y, ZERO),
+            VertexAttributeValue::One(f) => Vec3::new(f, ZERO, ZERO),
+            VertexAttributeValue::Two(v) => Vec3::new(v.x, v.y, ZERO),
             VertexAttributeValue::Three(v) => v,
-            VertexAttributeValue::Four(v) => vec3(v.x, v.y, v.z),
-            VertexAttributeValue::Bytes(b) => vec3(unorm(b.a), unorm(b.b), unorm(b.c)),
-            VertexAttributeValue::Unsupported => vec3(ZERO, ZERO, ZERO),
+            VertexAttributeValue::Four(v) => Vec3::new(v.x, v.y, v.z),
+            VertexAttributeValue::Bytes(b) => Vec3::new(unorm(b.a), unorm(b.b), unorm(b.c)),
+            VertexAttributeValue::Unsupported => Vec3::new(ZERO, ZERO, ZERO),
         }
     }
 
@@ -84,14 +82,14 @@ impl VertexAttributeValue {
         ensures { λ r. ⌜ r ≡ asVec4 self ⌝ }
     {
         match self {
-            VertexAttributeValue::One(f) => vec4(f, ZERO, ZERO, ONE),
-            VertexAttributeValue::Two(v) => vec4(v.x, v.y, ZERO, ONE),
-            VertexAttributeValue::Three(v) => vec4(v.x, v.y, v.z, ONE),
+            VertexAttributeValue::One(f) => Vec4::new(f, ZERO, ZERO, ONE),
+            VertexAttributeValue::Two(v) => Vec4::new(v.x, v.y, ZERO, ONE),
+            VertexAttributeValue::Three(v) => Vec4::new(v.x, v.y, v.z, ONE),
             VertexAttributeValue::Four(v) => v,
             VertexAttributeValue::Bytes(b) => {
-                vec4(unorm(b.a), unorm(b.b), unorm(b.c), unorm(b.d))
+                Vec4::new(unorm(b.a), unorm(b.b), unorm(b.c), unorm(b.d))
             }
-            VertexAttributeValue::Unsupported => vec4(ZERO, ZERO, ZERO, ZERO),
+            VertexAttributeValue::Unsupported => Vec4::new(ZERO, ZERO, ZERO, ZERO),
         }
     }
 }
@@ -166,8 +164,8 @@ fn colour_of(component_type: VertexComponentType, f: F32) -> u8
     }
 }
 
-fn white() -> Bytes4
-    ensures { λ r. ⌜ r ≡ record { a = 255; b = 255; c = 255; d = 255 } ⌝ }
+pub fn white() -> Bytes4
+    ensures { λ r. ⌜ r ≡ white ⌝ }
 {
     Bytes4 {
         a: 255,
@@ -183,24 +181,6 @@ fn unorm(byte: u8) -> F32
     F32 {
         bits: unorm8_to_f32(byte),
     }
-}
-
-fn vec2(x: F32, y: F32) -> Vec2
-    ensures { λ r. ⌜ r ≡ record { x = x; y = y } ⌝ }
-{
-    Vec2 { x, y }
-}
-
-fn vec3(x: F32, y: F32, z: F32) -> Vec3
-    ensures { λ r. ⌜ r ≡ record { x = x; y = y; z = z } ⌝ }
-{
-    Vec3 { x, y, z }
-}
-
-fn vec4(x: F32, y: F32, z: F32, w: F32) -> Vec4
-    ensures { λ r. ⌜ r ≡ record { x = x; y = y; z = z; w = w } ⌝ }
-{
-    Vec4 { x, y, z, w }
 }
 
 // The components of one vertex, each beside its value. Check 8: there is such a vertex. Check 9: every component that has bytes lies
@@ -289,16 +269,8 @@ fn no_attributes(refusal: u8) -> VertexAttributes
 fn empty_attribute() -> VertexAttribute
     ensures { λ r. ⌜ r ≡ emptyAttribute ⌝ }
 {
-    let component = VertexComponent {
-        semantic: VertexSemantic::Position,
-        semantic_index: 0,
-        component_type: VertexComponentType::Nothing,
-        offset: 0,
-        size: 0,
-        component_count: 0,
-    };
     VertexAttribute {
-        component,
+        component: empty_component(),
         value: VertexAttributeValue::Unsupported,
     }
 }

@@ -139,7 +139,7 @@ fn block_buffer<'a>(system: &'a [u8], graphics: &'a [u8], raw: &[u8]) -> FoundBu
     }
 }
 
-// A layout with an info pointer, which leads to the declaration.
+// A layout with an info pointer, behind which the declaration lies.
 fn legacy_at<'a>(
     system: &'a [u8],
     graphics: &'a [u8],

@@ -1,6 +1,8 @@
 // Vertex declarations: 16 bytes that say which components a vertex has, and of which types.
 ghost use mathlib.Core.Path.{_≡_};
-ghost use Rattle.sections.specs.Edit.{fits, Edited};
+ghost use Prim.Native.Nat.{_+_, _≤_};
+ghost use lib.ListN.{length};
+ghost use Rattle.sections.specs.Edit.{overwrite, fits, Edited};
 ghost use Rattle.vertices.specs.Declaration.{declarationAt, declarationBytes, positionOnly, componentAt, componentList, componentsOf, componentOf, foundComponent, idFrom, declarationId, emptyComponent};
 use crate::types::VertexComponent;
 use crate::types::VertexComponentType;
@@ -52,18 +54,23 @@ pub fn read_declaration(raw: &[u8], off: usize) -> VertexDeclaration
 pub fn write_declaration(buf: &mut [u8], off: usize, d: VertexDeclaration) -> bool
     ensures { λ r. ⌜ Edited (fits (now (buf .entry)) off 16) (now (buf .entry)) off (declarationBytes d) r (now (buf .exit)) ⌝ }
 {
-    if buf.len() < 16 {
+    if !sections::ends_inside(off, 16, buf.len()) {
         return false;
     }
-    if buf.len() - 16 < off {
-        return false;
-    }
+    put_declaration(buf, off, d);
+    true
+}
+
+// To a place where the 16 bytes are known to fit.
+fn put_declaration(buf: &mut [u8], off: usize, d: VertexDeclaration)
+    requires { ⌜ off + 16 ≤ length (now buf) ⌝ }
+    ensures { λ _. ⌜ now (buf .exit) ≡ overwrite (now (buf .entry)) off (declarationBytes d) ⌝ }
+{
     sections::put_u32_le(buf, off, d.flags);
     sections::put_u16_le(buf, off + 4, d.stride);
     sections::put_u8_le(buf, off + 6, d.unknown_6h);
     sections::put_u8_le(buf, off + 7, d.count);
     sections::put_u64_le(buf, off + 8, d.types);
-    true
 }
 
 impl VertexDeclaration {
@@ -87,7 +94,7 @@ impl VertexDeclaration {
         id_from(16, self.flags, self.types)
     }
 
-    // The components of the set flags 0 to 15, in rising order. The stored stride and count are not looked at.
+    // The components of the set flags 0 to 15, in rising order. The stored stride and count are not used.
     pub fn components(self) -> ComponentList
         ensures { λ r. ⌜ r ≡ componentList (componentsOf self) ⌝ }
     {
@@ -149,7 +156,8 @@ fn id_from(left: u8, flags: u32, types: u64) -> u64
     rest
 }
 
-fn empty_component() -> VertexComponent
+// What fills an array up.
+pub fn empty_component() -> VertexComponent
     ensures { λ r. ⌜ r ≡ emptyComponent ⌝ }
 {
     VertexComponent {

@@ -34,10 +34,7 @@ pub fn encode_value(
         return false;
     }
     let size = component_type.size_in_bytes() as usize;
-    if buf.len() < size {
-        return false;
-    }
-    if buf.len() - size < off {
+    if !sections::ends_inside(off, size, buf.len()) {
         return false;
     }
     put_value(buf, off, component_type, value);

@@ -1,4 +1,4 @@
-// Halves (IEEE 754's binary16) to floats and back, both as their bits, so that a NaN's bits survive.
+// Halves (IEEE 754's binary16) to floats and back, both as their bits, so that a NaN's bits are kept.
 ghost use mathlib.Core.Path.{_≡_};
 ghost use Prim.Native.Nat.{_<_};
 ghost use Rattle.vertices.specs.Half.{f16ToF32, f32ToF16, roundEven};

@@ -1,6 +1,7 @@
 // Vertices: floats carried as their bits, and how vertex data stores them.
 mod attribute;
 mod buffer;
+mod byte_runs;
 mod declaration;
 mod encode;
 mod halves;
@@ -21,6 +22,10 @@ pub use buffer::StoredDeclaration;
 pub use buffer::VertexBuffer;
 pub use buffer::VertexBufferLayout;
 pub use buffer::parse_vertex_buffer_at;
+pub use byte_runs::floats_to_snorm8;
+pub use byte_runs::floats_to_unorm8;
+pub use byte_runs::snorm8_to_floats;
+pub use byte_runs::unorm8_to_floats;
 pub use declaration::ComponentList;
 pub use declaration::FoundComponent;
 pub use declaration::VertexDeclaration;

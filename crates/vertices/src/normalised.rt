@@ -1,4 +1,4 @@
-// Normalised bytes and colours: a byte as a float and a float as a byte. A float is its bits here, and `f32` only between.
+// Normalised bytes and colours: a byte as a float and a float as a byte. A float is given and returned as its bits.
 ghost use mathlib.Core.Path.{_≡_};
 ghost use lib.Dec.{T};
 ghost use lib.Ieee.{binary32, lt, nanBits, ofInt, toUnsigned};
@@ -46,7 +46,7 @@ pub fn unorm8_to_f32(value: u8) -> u32
     f32::to_bits(value as f32 / 255.0)
 }
 
-// `value` without its fraction. The caller owes that what is left is a byte: -1 < value < 256.
+// `value` without its fraction. What is left must be a byte: -1 < value < 256.
 fn truncating_f32_to_u8(value: f32) -> u8
     requires { ⌜ T (lt (negative 1) value) × T (lt value (number 256)) ⌝ }
     ensures { λ r. ⌜ r ≡ toUnsigned 8 value ⌝ }

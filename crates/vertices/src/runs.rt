@@ -139,7 +139,7 @@ fn floats_of_regular(src: &[u8], first: usize) -> [u32; BLOCK]
     floats
 }
 
-// A function of its own, so that proofs know the block by its length.
+// A function of its own, whose contract gives the length only.
 fn empty_floats() -> [u32; BLOCK]
     ensures { λ r. ⌜ length r ≡ 64 ⌝ }
 {

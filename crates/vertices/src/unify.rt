@@ -5,22 +5,24 @@ ghost use Prim.Native.Nat.{ℕ, _+_, _*_, _≤_, _<_};
 ghost use lib.ListN.{length};
 ghost use Rattle.sections.specs.Edit.{overwrite};
 ghost use Rattle.vertices.specs.Declaration.{componentsFrom, sizes};
-ghost use Rattle.vertices.specs.Attribute.{valueAt, asVec2, asVec3, asVec4, asRgba8};
-ghost use Rattle.vertices.specs.Unified.{holdsIndices, noIndices, asIndices, verticesInside, vec2Bytes, vec3Bytes, vec4Bytes, bytes4Bytes, unifiedBytes, runOf, Unified};
+ghost use Rattle.vertices.specs.Attribute.{valueAt, asVec2, asVec3, asVec4, white, asRgba8};
+ghost use Rattle.vertices.specs.Unified.{holdsIndices, noIndices, asIndices, zeroVec2, verticesInside, vec2Bytes, vec3Bytes, vec4Bytes, bytes4Bytes, unifiedBytes, runOf, Unified};
 ghost use Rattle.vertices.specs.Plan.{planOf, planned, plannedVertex, Ends, Inside, Readable};
 use crate::attribute::VertexAttributeValue;
 use crate::attribute::as_rgba8;
 use crate::attribute::value_at;
+use crate::attribute::white;
 use crate::declaration::FoundComponent;
 use crate::declaration::VertexDeclaration;
 use crate::runs::set_u32;
 use crate::types::VertexComponent;
 use crate::types::VertexComponentType;
 use crate::values::Bytes4;
-use crate::values::F32;
+use crate::values::ONE;
 use crate::values::Vec2;
 use crate::values::Vec3;
 use crate::values::Vec4;
+use crate::values::ZERO;
 
 pub struct UnifiedVertex {
     pub position: Vec3,
@@ -57,9 +59,6 @@ pub struct UnifiedPlan {
 // Bytes of a unified vertex.
 const SIZE: usize = 84;
 
-// The bits of 1.0.
-const ONE: u32 = 0x3F80_0000;
-
 // All vertices over the first bytes of out. A refusal leaves out as it was.
 pub fn unified_vertices(
     data: &[u8],
@@ -81,7 +80,7 @@ pub fn unified_vertices(
     UnifyAnswer::Written((SIZE * count) as u64)
 }
 
-// Whether every component of nonzero size of every vertex ends inside n bytes. The last vertex decides.
+// Whether every component of nonzero size of every vertex ends inside n bytes. It is enough to test the last vertex.
 fn vertices_inside(declaration: VertexDeclaration, n: usize, stride: u16, count: u32) -> bool
     ensures { λ r. ⌜ r ≡ verticesInside declaration n stride count ⌝ }
 {
@@ -160,14 +159,14 @@ fn vertex_of(data: &[u8], base: usize, plan: UnifiedPlan) -> UnifiedVertex
     let blend_weights = plan.blend_weights;
     let blend_indices = plan.blend_indices;
     UnifiedVertex {
-        position: vec3_of(data, base, position, vec3(0, 0, 0)),
-        normal: vec3_of(data, base, normal, vec3(0, 0, ONE)),
+        position: vec3_of(data, base, position, Vec3::new(ZERO, ZERO, ZERO)),
+        normal: vec3_of(data, base, normal, Vec3::new(ZERO, ZERO, ONE)),
         color0: colour_of(data, base, color0),
         color1: colour_of(data, base, color1),
         texcoord0: vec2_of(data, base, texcoord0),
         texcoord1: vec2_of(data, base, texcoord1),
-        tangent: vec4_of(data, base, tangent, vec4(ONE, 0, 0, ONE)),
-        blend_weights: vec4_of(data, base, blend_weights, vec4(0, 0, 0, 0)),
+        tangent: vec4_of(data, base, tangent, Vec4::new(ONE, ZERO, ZERO, ONE)),
+        blend_weights: vec4_of(data, base, blend_weights, Vec4::new(ZERO, ZERO, ZERO, ZERO)),
         blend_indices: indices_of(data, base, blend_indices),
     }
 }
@@ -176,14 +175,11 @@ fn vertex_of(data: &[u8], base: usize, plan: UnifiedPlan) -> UnifiedVertex
 
 fn vec2_of(data: &[u8], base: usize, found: FoundComponent) -> Vec2
     requires { ⌜ Ends found base (length (now «data»)) ⌝ }
-    ensures { λ r. ⌜ r ≡ planned (λ t v. asVec2 v) (record { x = record { bits = 0 }; y = record { bits = 0 } }) (now («data» .entry)) base found ⌝ }
+    ensures { λ r. ⌜ r ≡ planned (λ t v. asVec2 v) zeroVec2 (now («data» .entry)) base found ⌝ }
 {
     match found {
         FoundComponent::Component(component) => component_value(data, base, component).as_vec2(),
-        FoundComponent::Missing => Vec2 {
-            x: F32 { bits: 0 },
-            y: F32 { bits: 0 },
-        },
+        FoundComponent::Missing => Vec2::new(ZERO, ZERO),
     }
 }
 
@@ -209,19 +205,14 @@ fn vec4_of(data: &[u8], base: usize, found: FoundComponent, default: Vec4) -> Ve
 
 fn colour_of(data: &[u8], base: usize, found: FoundComponent) -> Bytes4
     requires { ⌜ Ends found base (length (now «data»)) ⌝ }
-    ensures { λ r. ⌜ r ≡ planned asRgba8 (record { a = 255; b = 255; c = 255; d = 255 }) (now («data» .entry)) base found ⌝ }
+    ensures { λ r. ⌜ r ≡ planned asRgba8 white (now («data» .entry)) base found ⌝ }
 {
     match found {
         FoundComponent::Component(component) => {
             let component_type = component.component_type;
             as_rgba8(component_type, component_value(data, base, component))
         }
-        FoundComponent::Missing => Bytes4 {
-            a: 255,
-            b: 255,
-            c: 255,
-            d: 255,
-        },
+        FoundComponent::Missing => white(),
     }
 }
 
@@ -286,27 +277,6 @@ fn component_value(data: &[u8], base: usize, component: VertexComponent) -> Vert
     }
     let component_type = component.component_type;
     value_at(data, base + component.offset as usize, component_type)
-}
-
-fn vec3(x: u32, y: u32, z: u32) -> Vec3
-    ensures { λ r. ⌜ r ≡ record { x = record { bits = x }; y = record { bits = y }; z = record { bits = z } } ⌝ }
-{
-    Vec3 {
-        x: F32 { bits: x },
-        y: F32 { bits: y },
-        z: F32 { bits: z },
-    }
-}
-
-fn vec4(x: u32, y: u32, z: u32, w: u32) -> Vec4
-    ensures { λ r. ⌜ r ≡ record { x = record { bits = x }; y = record { bits = y }; z = record { bits = z }; w = record { bits = w } } ⌝ }
-{
-    Vec4 {
-        x: F32 { bits: x },
-        y: F32 { bits: y },
-        z: F32 { bits: z },
-        w: F32 { bits: w },
-    }
 }
 
 // Writing out, to places that are known to fit.

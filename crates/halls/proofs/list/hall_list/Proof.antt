@@ -5,9 +5,10 @@ use borrow.Author.Needs.{needs}
 use borrow.Author.Tests.{not-true, not-false}
 use lib.ListN.{length}
 use Rattle.sections.specs.Address.{sections}
+use Rattle.sections.proofs.AddressLaws.{limit-each}
 use Rattle.sections.proofs.EditLaws.{overwrite-none}
 use Rattle.halls.specs.Listing.{hallList}
-use Rattle.halls.proofs.ListingLaws.{limit-each, limit-exceeded, header-found, header-missing, shown}
+use Rattle.halls.proofs.ListingLaws.{limit-exceeded, header-found, header-missing, shown}
 use Rattle.halls.proofs.list.hall_list.Statement.{statement}
 use Rattle.halls.proofs.list.hall_list.Tie as tie
 

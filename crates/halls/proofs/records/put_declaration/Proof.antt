@@ -3,8 +3,8 @@ use mathlib.Core.Path.{refl}
 use native.Mathlib.Omega.{arith}
 use borrow.Author.Needs.{needs}
 use Rattle.sections.specs.Le.{bytes}
+use Rattle.sections.proofs.EditLaws.{edited-behind}
 use Rattle.vertices.specs.Declaration.{declarationBytes}
-use Rattle.vertices.proofs.DeclarationLaws.{edited-behind}
 use Rattle.halls.specs.List.{recordBytes, declarationRecord}
 use Rattle.halls.proofs.records.put_declaration.Statement.{statement}
 use Rattle.halls.proofs.records.put_declaration.Tie as tie

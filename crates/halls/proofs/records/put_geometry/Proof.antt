@@ -3,7 +3,7 @@ use mathlib.Core.Path.{refl}
 use native.Mathlib.Omega.{arith}
 use borrow.Author.Needs.{needs}
 use Rattle.sections.specs.Le.{bytes}
-use Rattle.vertices.proofs.DeclarationLaws.{edited-behind}
+use Rattle.sections.proofs.EditLaws.{edited-behind}
 use Rattle.halls.specs.List.{recordBytes, geometryRecord}
 use Rattle.halls.proofs.records.put_geometry.Statement.{statement}
 use Rattle.halls.proofs.records.put_geometry.Tie as tie

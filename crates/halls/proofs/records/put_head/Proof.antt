@@ -3,8 +3,7 @@ use mathlib.Core.Path.{refl}
 use native.Mathlib.Omega.{arith}
 use borrow.Author.Needs.{needs}
 use Rattle.sections.specs.Le.{bytes}
-use Rattle.sections.proofs.EditLaws.{edited-fits}
-use Rattle.vertices.proofs.DeclarationLaws.{edited-behind}
+use Rattle.sections.proofs.EditLaws.{edited-behind, edited-fits}
 use Rattle.halls.proofs.records.put_head.Statement.{statement}
 use Rattle.halls.proofs.records.put_head.Tie as tie
 

@@ -6,9 +6,8 @@ use native.Mathlib.Omega.{arith}
 use borrow.Author.Needs.{needs}
 use Rattle.sections.specs.Edit.{overwrite}
 use Rattle.sections.specs.Le.{bytes}
-use Rattle.sections.proofs.EditLaws.{overwrite-then}
+use Rattle.sections.proofs.EditLaws.{edited-behind, overwrite-then}
 use Rattle.vertices.specs.Runs.{run}
-use Rattle.vertices.proofs.DeclarationLaws.{edited-behind}
 use Rattle.halls.specs.View.{indicesIn}
 use Rattle.halls.proofs.HeldLaws.{held-few, held-length, index-parts}
 use Rattle.halls.proofs.records.put_indices.Statement.{statement}

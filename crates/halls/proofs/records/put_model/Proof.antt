@@ -10,7 +10,7 @@ use Rattle.sections.specs.Edit.{overwrite}
 use Rattle.sections.specs.Le.{bytes}
 use Rattle.vertices.specs.Runs.{numbers, run}
 use Rattle.vertices.proofs.RunLaws.{run-numbers}
-use Rattle.vertices.proofs.DeclarationLaws.{edited-behind}
+use Rattle.sections.proofs.EditLaws.{edited-behind}
 use Rattle.halls.specs.List.{recordBytes}
 use Rattle.halls.proofs.records.put_model.Statement.{statement}
 use Rattle.halls.proofs.records.put_model.Tie as tie

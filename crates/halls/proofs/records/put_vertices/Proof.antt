@@ -7,7 +7,7 @@ use borrow.Author.Needs.{needs}
 use lib.ListN.{length}
 use Rattle.sections.specs.Edit.{overwrite}
 use Rattle.sections.specs.Le.{bytes}
-use Rattle.vertices.proofs.DeclarationLaws.{edited-behind}
+use Rattle.sections.proofs.EditLaws.{edited-behind}
 use Rattle.halls.specs.List.{recordBytes, verticesRecord}
 use Rattle.halls.proofs.records.put_vertices.Statement.{statement}
 use Rattle.halls.proofs.records.put_vertices.Tie as tie

@@ -1,4 +1,4 @@
--- What goes into the block comes out of it.
+-- The part that is put into the block is read back from it.
 use native.Mathlib.Omega.{arith}
 use borrow.Author.Needs.{needs}
 use Rattle.sections.proofs.Runs.{through-block}

@@ -1,4 +1,4 @@
--- Refused where either range test fails; else the move in the direction that the two starts ask for.
+-- Refused where either range test fails; else a move down or up, by which of the two starts is the lower.
 use mathlib.Core.Path.{sym, _∙_}
 use native.Mathlib.Omega.{arith}
 use borrow.Author.Needs.{needs}

@@ -1,4 +1,4 @@
--- Each arm hands back the part of its own section.
+-- Each arm returns the part of its own section.
 use borrow.Author.Needs.{needs}
 use Rattle.sections.proofs.lookup.bytes_of.Statement.{statement}
 use Rattle.sections.proofs.lookup.bytes_of.Tie as tie

@@ -1,4 +1,4 @@
--- Each test's outcome is the comparison of the sum, which omega reads off.
+-- Each return is one outcome of the comparison of the sum, by arithmetic.
 use Prim.Native.Nat.{_+_}
 use mathlib.Core.Path.{sym}
 use native.Mathlib.Omega.{arith}

@@ -1,4 +1,4 @@
--- `value_at`: each arm is one case of the definition, and the type's size is what its reader asks for.
+-- `value_at`: each arm is one case of the definition, and the type's size is what its reader requires.
 use borrow.Author.Needs.{needs}
 use Rattle.vertices.proofs.attribute.value_at.Statement.{statement}
 use Rattle.vertices.proofs.attribute.value_at.Tie as tie

@@ -10,7 +10,7 @@ seen c = rw (c .before .before .before .found .given .1) (cc)
 
 missing : tie.Need-returns-2
 unfolding planned
-missing c = rw (c .enum-told .given .1)
+missing c = rw (c .before .enum-told .given .1) (c .new .ensures)
 
 pub vec2-of-spec : {M : Type 1} → statement M
 vec2-of-spec =
@@ -20,5 +20,6 @@ vec2-of-spec =
     (λ c κs. rw (c .before .found .given .1) at (c .before .before .before .before .pre))
     (λ c κs. search needs)
     (λ c. search needs)
+    (λ c κs. search needs)
     seen
     missing)

@@ -28,12 +28,12 @@ vertex-of-spec =
     let normal = c .before .before .before .before .before .before .before .before .before in
     let position = c .before .before .before .before .before .before .before .before .before .before .before in
     made-vertex (start .args .plan) (start .args .«data» .now) (start .args .base)
-    (rw (position .before .vec3 .ensures) at (position .vec3-of .ensures))
-    (rw (normal .before .vec32 .ensures) at (normal .vec3-of2 .ensures))
+    (rw (position .before .new .ensures) at (position .vec3-of .ensures))
+    (rw (normal .before .new2 .ensures) at (normal .vec3-of2 .ensures))
     (c .before .before .before .before .before .before .before .before .colour-of .ensures)
     (c .before .before .before .before .before .before .before .colour-of2 .ensures)
     (c .before .before .before .before .before .before .vec2-of .ensures)
     (c .before .before .before .before .before .vec2-of2 .ensures)
-    (rw (tangent .before .vec4 .ensures) at (tangent .vec4-of .ensures))
-    (rw (weights .before .vec42 .ensures) at (weights .vec4-of2 .ensures))
+    (rw (tangent .before .new3 .ensures) at (tangent .vec4-of .ensures))
+    (rw (weights .before .new4 .ensures) at (weights .vec4-of2 .ensures))
     (c .indices-of .ensures)))

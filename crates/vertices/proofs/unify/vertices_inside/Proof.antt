@@ -1,4 +1,4 @@
--- The last vertex decides, unless there is none or nothing to read.
+-- Inside where there is no vertex or nothing to read; else it is enough to test the last vertex.
 use mathlib.Core.Path.{sym}
 use native.Mathlib.Omega.{arith}
 use borrow.Author.Needs.{needs}

@@ -1,0 +1,5 @@
+pub mod Told
+pub mod Passed
+pub mod Buffers
+pub mod Unify
+pub mod Attributes

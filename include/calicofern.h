@@ -1,0 +1,121 @@
+/* The geometry of RAGE drawables: the C functions of crates/exports.
+
+   Each promise below is proved for every input: the function reads and writes only what it was lent, and always returns.
+
+   A slice is two arguments, a pointer and the number of its bytes. The pointer must point to that many readable bytes, and for an
+   output writable ones; it is never null, not even with length 0. An output and `size` overlap no other argument. A slice has fewer
+   than 2^63 bytes.
+   Numbers in slices are little-endian. A float is passed as its 32 bits, a half as its 16, so that a NaN keeps sign and payload.
+
+   A function with an output returns 0 where it accepts, else the number of the check that failed:
+      1  a section has more than 67,108,864 bytes
+      2  the model pointers of a LOD do not resolve
+      3  a model's block does not
+      4  the geometry pointers of a model do not
+      5  a geometry has 16,384 before it
+      6  a geometry's block does not resolve
+      7  the list buffer is too short
+      8  there is no vertex with this index
+      9  a component of nonzero size does not end inside the vertex data
+     10  an output of the vertex functions is too short
+   It accepts: the result stands in the first bytes of the output, the bytes behind it are as they were, and *size is the length of the
+   result. It refuses: no byte of the output is changed, and *size is the length that the output needs for checks 7 and 10, else 0.
+   *size is written in either case, and not read. */
+#ifndef CALICOFERN_H
+#define CALICOFERN_H
+
+#include <stdbool.h>
+#include <stddef.h>
+#include <stdint.h>
+
+#ifdef __cplusplus
+extern "C" {
+#endif
+
+/* ---- Halls */
+
+/* The hall list of the models behind the LOD header at address `va`: records of body length u32, kind u16, body. Kind 1, a model:
+   binding u32, mask u16, mapping u16 each. Kind 2, a geometry: shader id u16, indices u32, triangles u32, vertices u16, stride u16. Kind 3, its
+   declaration, 16 bytes, if it has one. Kind 4, its vertices, if found: layout u8, stride u16, count u32, data. Kind 5, its indices, if their block
+   resolves: count u32, then u32 each. A header that does not resolve has no models. Returns 0 to 7. */
+uint8_t calicofern_hall_list(const uint8_t *system, size_t system_length, const uint8_t *graphics, size_t graphics_length, uint64_t va,
+                             uint8_t *list, size_t list_length, uint64_t *size);
+
+/* The triangles of a hall list: for each geometry its stored index count, or the indices that its kind 5 holds where that is 0, divided by 3; the
+   sum, or 2^64 - 1 where the sum is above it. A record that is not whole ends the list. */
+uint64_t calicofern_triangle_count(const uint8_t *list, size_t list_length);
+
+/* Bits 24 to 31 of a model's binding: the bone that it hangs off. */
+uint8_t calicofern_bone_index(uint32_t skeleton_binding);
+
+/* Whether bits 8 to 15 of a model's binding are not all 0: its vertices are skinned. */
+bool calicofern_is_skinned(uint32_t skeleton_binding);
+
+/* ---- Vertex buffers
+
+   A declaration is passed by its flags and types. Bit i of `flags`, 0 to 15, says that each vertex has a component of semantic i, whose type is nibble i of
+   `types`: 1 Half2, 2 Float, 3 Half4, 5 Float2, 6 Float3, 7 Float4, 8 UByte4, 9 Colour, 10 Rgba8Snorm; the others have no bytes. Components
+   lie one behind the other in rising order. Its stride and count are not looked at. */
+
+/* The vertices of a geometry: the layouts of the block behind `va` are tried in order, 0 Legacy, 1 LegacyData2, 2 Gen9, and then the geometry's own
+   pointer, count and stride, 3. The first whose data resolves is written as 32 bytes: layout u8, stride u16, count u32, data pointer u64, info pointer
+   u64, section u8 (0 system, 1 graphics), offset of the data in it u64; and behind them the declaration's 16 bytes where one is stored: flags u32,
+   stride u16, unknown u8, count u8, types u64. Where none is found nothing is written and *size is 0. Returns 0 or 10. */
+uint8_t calicofern_vertex_buffer(const uint8_t *system, size_t system_length, const uint8_t *graphics, size_t graphics_length, uint64_t va,
+                                 uint64_t inline_pointer, uint32_t inline_count, uint16_t inline_stride, uint8_t *out, size_t out_length,
+                                 uint64_t *size);
+
+/* The components of vertex `index` of `count` vertices, which lie `stride` bytes apart, in order, each as 20 bytes: semantic u8, type nibble u8,
+   offset in the vertex u16, and 16 bytes with the value's floats, or its four bytes (UByte4, Colour), and zeros behind them. Halves and Rgba8Snorm are
+   given as floats. Returns 0, 8, 9 or 10. */
+uint8_t calicofern_vertex_attributes(const uint8_t *data, size_t data_length, uint16_t stride, uint32_t count, uint32_t flags, uint64_t types,
+                                     uint64_t index, uint8_t *out, size_t out_length, uint64_t *size);
+
+/* All vertices in one form, 84 bytes each: position 3 floats, normal 3, colour 0 and 1 four bytes each, texture coordinates 0 and 1 2 floats each, tangent
+   4, blend weights 4, blend indices four bytes. A field without a component: position, texture coordinates, weights and indices 0, normal (0, 0, 1), colours
+   255, tangent (1, 0, 0, 1). Returns 0, 9 or 10. */
+uint8_t calicofern_unified_vertices(const uint8_t *data, size_t data_length, uint16_t stride, uint32_t count, uint32_t flags, uint64_t types,
+                                    uint8_t *out, size_t out_length, uint64_t *size);
+
+/* The type nibbles of the set flags 0 to 15, each at its own place, the others 0. */
+uint64_t calicofern_declaration_id(uint32_t flags, uint64_t types);
+
+/* ---- Numbers */
+
+/* The float with the half's value; a NaN keeps its sign and payload. */
+uint32_t calicofern_f16_to_f32(uint16_t half);
+
+/* The half nearest to the float, of two the even one; a NaN keeps its sign and upper ten fraction bits and gets 0x200. */
+uint16_t calicofern_f32_to_f16(uint32_t bits);
+
+/* A signed byte divided by 127; -128 gives -1.0 too. */
+uint32_t calicofern_snorm8_to_f32(uint8_t byte);
+
+/* A byte divided by 255. */
+uint32_t calicofern_unorm8_to_f32(uint8_t byte);
+
+/* A float times 127, clamped to -127 to 127 and cut towards zero, as a signed byte; a NaN gives 0. */
+uint8_t calicofern_f32_to_snorm8(uint32_t bits);
+
+/* A float clamped to 0 to 1, times 255, cut towards zero; a NaN gives 0. */
+uint8_t calicofern_f32_to_unorm8(uint32_t bits);
+
+/* The same for half of the float plus 0.5: a signed normalised float as a byte of a colour. */
+uint8_t calicofern_snorm_colour8(uint32_t bits);
+
+/* ---- Runs of numbers
+
+   Each number of `src` is converted as above and written to `dst`. Last bytes of `src` that make no whole number are not read. Return 0 or 10. Where
+   the needed length is above 2^64 - 1, *size is 2^64 - 1. */
+uint8_t calicofern_halves_to_floats(const uint8_t *src, size_t src_length, uint8_t *dst, size_t dst_length, uint64_t *size);
+uint8_t calicofern_floats_to_halves(const uint8_t *src, size_t src_length, uint8_t *dst, size_t dst_length, uint64_t *size);
+uint8_t calicofern_snorm8_to_floats(const uint8_t *src, size_t src_length, uint8_t *dst, size_t dst_length, uint64_t *size);
+uint8_t calicofern_unorm8_to_floats(const uint8_t *src, size_t src_length, uint8_t *dst, size_t dst_length, uint64_t *size);
+uint8_t calicofern_floats_to_snorm8(const uint8_t *src, size_t src_length, uint8_t *dst, size_t dst_length, uint64_t *size);
+uint8_t calicofern_floats_to_unorm8(const uint8_t *src, size_t src_length, uint8_t *dst, size_t dst_length, uint64_t *size);
+
+#ifdef __cplusplus
+}
+#endif
+
+#endif

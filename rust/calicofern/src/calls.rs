@@ -1,0 +1,223 @@
+//! The C functions of the proved library, each behind a safe function. All unsafe code of this crate is here.
+//!
+//! The library asks of a caller what include/calicofern.h says: a slice's pointer is not null and points to as many bytes as are said, readable or
+//! for an output writable; an output and `size` overlap no other argument; a slice has fewer than 2^63 bytes. It keeps no pointer, and it
+//! is proved to read and write nothing else and to return.
+//!
+//! Every call below is sound for the same reasons. A Rust slice's pointer is never null and is good for its length, which is at most
+//! `isize::MAX`. The outputs are `&mut` borrows, so nothing else overlaps them, and `size` is a variable of the function. No borrow outlives
+//! its call. Functions of numbers alone take any number.
+
+/// What a call with an output answers: the number of the check that failed, or 0, and the bytes written or needed.
+#[derive(Clone, Copy)]
+pub struct Told {
+    pub check: u8,
+    pub size: u64,
+}
+
+/// A conversion of a run of numbers: source, destination, size.
+type Run = unsafe extern "C" fn(*const u8, usize, *mut u8, usize, *mut u64) -> u8;
+
+extern "C" {
+    fn calicofern_hall_list(
+        system: *const u8,
+        system_length: usize,
+        graphics: *const u8,
+        graphics_length: usize,
+        va: u64,
+        list: *mut u8,
+        list_length: usize,
+        size: *mut u64,
+    ) -> u8;
+    fn calicofern_triangle_count(list: *const u8, list_length: usize) -> u64;
+    fn calicofern_bone_index(skeleton_binding: u32) -> u8;
+    fn calicofern_is_skinned(skeleton_binding: u32) -> bool;
+    fn calicofern_vertex_buffer(
+        system: *const u8,
+        system_length: usize,
+        graphics: *const u8,
+        graphics_length: usize,
+        va: u64,
+        inline_pointer: u64,
+        inline_count: u32,
+        inline_stride: u16,
+        out: *mut u8,
+        out_length: usize,
+        size: *mut u64,
+    ) -> u8;
+    fn calicofern_vertex_attributes(
+        data: *const u8,
+        data_length: usize,
+        stride: u16,
+        count: u32,
+        flags: u32,
+        types: u64,
+        index: u64,
+        out: *mut u8,
+        out_length: usize,
+        size: *mut u64,
+    ) -> u8;
+    fn calicofern_unified_vertices(
+        data: *const u8,
+        data_length: usize,
+        stride: u16,
+        count: u32,
+        flags: u32,
+        types: u64,
+        out: *mut u8,
+        out_length: usize,
+        size: *mut u64,
+    ) -> u8;
+    fn calicofern_declaration_id(flags: u32, types: u64) -> u64;
+    fn calicofern_f16_to_f32(half: u16) -> u32;
+    fn calicofern_f32_to_f16(bits: u32) -> u16;
+    fn calicofern_snorm8_to_f32(byte: u8) -> u32;
+    fn calicofern_unorm8_to_f32(byte: u8) -> u32;
+    fn calicofern_f32_to_snorm8(bits: u32) -> u8;
+    fn calicofern_f32_to_unorm8(bits: u32) -> u8;
+    fn calicofern_snorm_colour8(bits: u32) -> u8;
+    fn calicofern_halves_to_floats(src: *const u8, src_length: usize, dst: *mut u8, dst_length: usize, size: *mut u64) -> u8;
+    fn calicofern_floats_to_halves(src: *const u8, src_length: usize, dst: *mut u8, dst_length: usize, size: *mut u64) -> u8;
+    fn calicofern_snorm8_to_floats(src: *const u8, src_length: usize, dst: *mut u8, dst_length: usize, size: *mut u64) -> u8;
+    fn calicofern_unorm8_to_floats(src: *const u8, src_length: usize, dst: *mut u8, dst_length: usize, size: *mut u64) -> u8;
+    fn calicofern_floats_to_snorm8(src: *const u8, src_length: usize, dst: *mut u8, dst_length: usize, size: *mut u64) -> u8;
+    fn calicofern_floats_to_unorm8(src: *const u8, src_length: usize, dst: *mut u8, dst_length: usize, size: *mut u64) -> u8;
+}
+
+pub fn hall_list(system: &[u8], graphics: &[u8], va: u64, list: &mut [u8]) -> Told {
+    let mut size = 0;
+    // SAFETY: pointers and lengths of borrowed slices; `list` is an exclusive borrow and `size` a variable of this function.
+    let check = unsafe {
+        calicofern_hall_list(system.as_ptr(), system.len(), graphics.as_ptr(), graphics.len(), va, list.as_mut_ptr(), list.len(), &mut size)
+    };
+    Told { check, size }
+}
+
+pub fn triangle_count(list: &[u8]) -> u64 {
+    // SAFETY: pointer and length of a borrowed slice, which is only read.
+    unsafe { calicofern_triangle_count(list.as_ptr(), list.len()) }
+}
+
+pub fn bone_index(skeleton_binding: u32) -> u8 {
+    // SAFETY: a function of a number.
+    unsafe { calicofern_bone_index(skeleton_binding) }
+}
+
+pub fn is_skinned(skeleton_binding: u32) -> bool {
+    // SAFETY: a function of a number. It returns C's bool, which is Rust's.
+    unsafe { calicofern_is_skinned(skeleton_binding) }
+}
+
+pub fn vertex_buffer(system: &[u8], graphics: &[u8], va: u64, inline: (u64, u32, u16), out: &mut [u8]) -> Told {
+    let mut size = 0;
+    let (inline_pointer, inline_count, inline_stride) = inline;
+    // SAFETY: pointers and lengths of borrowed slices; `out` is an exclusive borrow and `size` a variable of this function. The addresses are numbers:
+    // the library looks them up in the sections.
+    let check = unsafe {
+        calicofern_vertex_buffer(
+            system.as_ptr(),
+            system.len(),
+            graphics.as_ptr(),
+            graphics.len(),
+            va,
+            inline_pointer,
+            inline_count,
+            inline_stride,
+            out.as_mut_ptr(),
+            out.len(),
+            &mut size,
+        )
+    };
+    Told { check, size }
+}
+
+pub fn vertex_attributes(data: &[u8], stride: u16, count: u32, flags: u32, types: u64, index: u64, out: &mut [u8]) -> Told {
+    let mut size = 0;
+    // SAFETY: pointers and lengths of borrowed slices; `out` is an exclusive borrow and `size` a variable of this function. Stride, count and index may
+    // be any numbers: the library checks them against the data's length.
+    let check = unsafe {
+        calicofern_vertex_attributes(data.as_ptr(), data.len(), stride, count, flags, types, index, out.as_mut_ptr(), out.len(), &mut size)
+    };
+    Told { check, size }
+}
+
+pub fn unified_vertices(data: &[u8], stride: u16, count: u32, flags: u32, types: u64, out: &mut [u8]) -> Told {
+    let mut size = 0;
+    // SAFETY: as for the attributes.
+    let check = unsafe {
+        calicofern_unified_vertices(data.as_ptr(), data.len(), stride, count, flags, types, out.as_mut_ptr(), out.len(), &mut size)
+    };
+    Told { check, size }
+}
+
+pub fn declaration_id(flags: u32, types: u64) -> u64 {
+    // SAFETY: a function of numbers.
+    unsafe { calicofern_declaration_id(flags, types) }
+}
+
+pub fn f16_to_f32(half: u16) -> u32 {
+    // SAFETY: a function of a number.
+    unsafe { calicofern_f16_to_f32(half) }
+}
+
+pub fn f32_to_f16(bits: u32) -> u16 {
+    // SAFETY: a function of a number.
+    unsafe { calicofern_f32_to_f16(bits) }
+}
+
+pub fn snorm8_to_f32(byte: u8) -> u32 {
+    // SAFETY: a function of a number.
+    unsafe { calicofern_snorm8_to_f32(byte) }
+}
+
+pub fn unorm8_to_f32(byte: u8) -> u32 {
+    // SAFETY: a function of a number.
+    unsafe { calicofern_unorm8_to_f32(byte) }
+}
+
+pub fn f32_to_snorm8(bits: u32) -> u8 {
+    // SAFETY: a function of a number.
+    unsafe { calicofern_f32_to_snorm8(bits) }
+}
+
+pub fn f32_to_unorm8(bits: u32) -> u8 {
+    // SAFETY: a function of a number.
+    unsafe { calicofern_f32_to_unorm8(bits) }
+}
+
+pub fn snorm_colour8(bits: u32) -> u8 {
+    // SAFETY: a function of a number.
+    unsafe { calicofern_snorm_colour8(bits) }
+}
+
+/// `call` is one of the library's six conversions of runs: the functions below name them, and nothing else calls this one.
+fn run(call: Run, src: &[u8], dst: &mut [u8]) -> Told {
+    let mut size = 0;
+    // SAFETY: pointers and lengths of borrowed slices; `dst` is an exclusive borrow and `size` a variable of this function.
+    let check = unsafe { call(src.as_ptr(), src.len(), dst.as_mut_ptr(), dst.len(), &mut size) };
+    Told { check, size }
+}
+
+pub fn halves_to_floats(src: &[u8], dst: &mut [u8]) -> Told {
+    run(calicofern_halves_to_floats, src, dst)
+}
+
+pub fn floats_to_halves(src: &[u8], dst: &mut [u8]) -> Told {
+    run(calicofern_floats_to_halves, src, dst)
+}
+
+pub fn snorm8_to_floats(src: &[u8], dst: &mut [u8]) -> Told {
+    run(calicofern_snorm8_to_floats, src, dst)
+}
+
+pub fn unorm8_to_floats(src: &[u8], dst: &mut [u8]) -> Told {
+    run(calicofern_unorm8_to_floats, src, dst)
+}
+
+pub fn floats_to_snorm8(src: &[u8], dst: &mut [u8]) -> Told {
+    run(calicofern_floats_to_snorm8, src, dst)
+}
+
+pub fn floats_to_unorm8(src: &[u8], dst: &mut [u8]) -> Told {
+    run(calicofern_floats_to_unorm8, src, dst)
+}

@@ -1,0 +1,160 @@
+//! Numbers of a drawable that ought to agree.
+
+use crate::DrawableGeometry;
+use std::fmt;
+
+/// Two numbers of a model or a geometry that ought to agree and do not.
+#[derive(Debug, Clone, Copy, PartialEq, Eq)]
+pub struct Disagreement {
+    /// The check of a sound hall that the pair would fail, 11 to 18; `None` where no check asks.
+    pub check: Option<u8>,
+    /// What the one is, and its value.
+    pub one: (&'static str, u64),
+    /// What the other is, and its value.
+    pub other: (&'static str, u64),
+}
+
+impl fmt::Display for Disagreement {
+    fn fmt(&self, out: &mut fmt::Formatter<'_>) -> fmt::Result {
+        let ((one, first), (other, second)) = (self.one, self.other);
+        write!(out, "{one} {first}, but {other} {second}")?;
+        match self.check {
+            Some(check) => write!(out, " (check {check} of a sound hall)"),
+            None => write!(out, " (not looked at in reading)"),
+        }
+    }
+}
+
+type Number = (&'static str, u64);
+
+/// The pair, where its numbers differ.
+pub fn equal(check: u8, one: Number, other: Number) -> Option<Disagreement> {
+    (one.1 != other.1).then_some(Disagreement { check: Some(check), one, other })
+}
+
+/// The pair, where the first number is greater.
+fn at_most(check: u8, one: Number, other: Number) -> Option<Disagreement> {
+    (one.1 > other.1).then_some(Disagreement { check: Some(check), one, other })
+}
+
+pub fn geometry_disagreements(geometry: &DrawableGeometry<'_>) -> Vec<Disagreement> {
+    let mut found = index_disagreements(geometry);
+    found.extend(vertex_disagreements(geometry));
+    found.extend(declaration_disagreements(geometry));
+    found
+}
+
+fn index_disagreements(geometry: &DrawableGeometry<'_>) -> Vec<Disagreement> {
+    let stored = ("index count", u64::from(geometry.indices_count));
+    let triangles = ("3 x triangle count", 3 * u64::from(geometry.triangles_count));
+    let mut found = vec![equal(17, stored, triangles)];
+    match geometry.index_buffer {
+        Some(buffer) => {
+            let count = ("count of the index block", u64::from(buffer.indices_count));
+            let held = ("indices found", buffer.indices().len() as u64);
+            found.push(equal(17, stored, count));
+            found.push(equal(17, count, held));
+            let highest = buffer.indices().max();
+            if let (Some(vertices), Some(highest)) = (geometry.vertex_buffer, highest) {
+                let needed = ("highest index + 1", u64::from(highest) + 1);
+                found.push(at_most(18, needed, ("vertices found", u64::from(vertices.vertex_count))));
+            }
+        }
+        None => found.push(equal(11, stored, ("indices found", 0))),
+    }
+    found.into_iter().flatten().collect()
+}
+
+fn vertex_disagreements(geometry: &DrawableGeometry<'_>) -> Vec<Disagreement> {
+    let stored = ("vertex count", u64::from(geometry.vertices_count));
+    let stride = ("stride", u64::from(geometry.vertex_stride));
+    match geometry.vertex_buffer {
+        Some(vertices) => {
+            let count = ("vertices found", u64::from(vertices.vertex_count));
+            let buffer = ("stride of the vertices found", u64::from(vertices.vertex_stride));
+            [equal(16, stored, count), equal(14, stride, buffer)].into_iter().flatten().collect()
+        }
+        None => equal(11, stored, ("vertices found", 0)).into_iter().collect(),
+    }
+}
+
+fn declaration_disagreements(geometry: &DrawableGeometry<'_>) -> Vec<Disagreement> {
+    let Some(vertices) = geometry.vertex_buffer else {
+        return Vec::new();
+    };
+    let stride = ("stride of the vertices found", u64::from(vertices.vertex_stride));
+    let declaration = vertices.declaration_or_position_only();
+    let size = ("bytes of the components", u64::from(declaration.size_in_bytes()));
+    let mut found = vec![at_most(15, size, stride)];
+    if geometry.declaration.is_some() {
+        found.push(equal(14, stride, ("stride of the declaration", u64::from(declaration.stride))));
+        let one = ("count of the declaration", u64::from(declaration.count));
+        let other = ("components", declaration.components().len() as u64);
+        found.push((one.1 != other.1).then_some(Disagreement { check: None, one, other }));
+    }
+    found.into_iter().flatten().collect()
+}
+
+#[cfg(test)]
+mod tests {
+    use crate::Models;
+
+    fn record(kind: u8, body: &[u8]) -> Vec<u8> {
+        [&[body.len() as u8, 0, 0, 0, kind, 0], body].concat()
+    }
+
+    /// One model, one geometry, three Float3 positions, three indices.
+    fn sound() -> Vec<u8> {
+        let declaration = [1, 0, 0, 0, 12, 0, 0, 1, 6, 0, 0, 0, 0, 0, 0, 0];
+        let vertices = [&[0, 12, 0, 3, 0, 0, 0][..], &[0; 36]].concat();
+        let records = [
+            record(1, &[0, 0, 0, 0, 0, 0, 5, 0]),
+            record(2, &[5, 0, 3, 0, 0, 0, 1, 0, 0, 0, 3, 0, 12, 0]),
+            record(3, &declaration),
+            record(4, &vertices),
+            record(5, &[3, 0, 0, 0, 0, 0, 0, 0, 1, 0, 0, 0, 2, 0, 0, 0]),
+        ];
+        records.concat()
+    }
+
+    /// The checks of the pairs that disagree in a list.
+    fn checks(list: &[u8]) -> Vec<Option<u8>> {
+        let model = Models::of(list).next().unwrap();
+        let geometry = model.geometries().next().unwrap();
+        model.disagreements().iter().chain(&geometry.disagreements()).map(|pair| pair.check).collect()
+    }
+
+    #[test]
+    fn each_number_is_held_to_the_others() {
+        assert_eq!(sound().len(), 127);
+        assert_eq!(checks(&sound()), []);
+        let changes: [(&str, usize, u8, &[Option<u8>]); 11] = [
+            ("index count", 22, 6, &[Some(17), Some(17)]),
+            ("triangle count", 26, 2, &[Some(17)]),
+            ("vertex count", 30, 4, &[Some(16)]),
+            ("stride", 32, 13, &[Some(14)]),
+            ("stride of the declaration", 44, 13, &[Some(14)]),
+            ("count of the declaration", 47, 2, &[None]),
+            ("type of the position: 16 bytes", 48, 7, &[Some(15)]),
+            ("stride of the vertices", 63, 11, &[Some(14), Some(15), Some(14)]),
+            ("count of the vertices", 65, 4, &[Some(16)]),
+            ("count of the index block", 111, 4, &[Some(17), Some(17)]),
+            ("an index", 119, 3, &[Some(18)]),
+        ];
+        for (what, at, value, expected) in changes {
+            let mut list = sound();
+            list[at] = value;
+            assert_eq!(checks(&list), expected, "{what}");
+        }
+    }
+
+    #[test]
+    fn parts_that_are_missing_have_no_numbers() {
+        let whole = sound();
+        assert_eq!(checks(&whole[..105]), [Some(11)]);
+        assert_eq!(checks(&whole[..56]), [Some(11), Some(11)]);
+        // a mapping of two entries
+        let longer = [record(1, &[0, 0, 0, 0, 0, 0, 5, 0, 6, 0]), whole[14..].to_vec()].concat();
+        assert_eq!(checks(&longer), [Some(12)]);
+    }
+}

@@ -1,0 +1,66 @@
+//! The geometry of RAGE drawables: what a drawable's two sections hold, its vertices in one form, and the numbers that it packs them in.
+//!
+//! The work is done by a library that is proved: for every input it stays inside what it was lent, ends, and answers as its contract
+//! says. This crate lends it slices and gives its answers Rust types. A call that cannot be done is refused with a [`Refusal`], which has
+//! the number of the check that failed and says it in words; a refused call changes no byte of an output.
+//!
+//! ```
+//! use calicofern::Sections;
+//!
+//! # fn main() -> Result<(), Box<dyn std::error::Error>> {
+//! # let folder = concat!(env!("CARGO_MANIFEST_DIR"), "/../../samples/");
+//! let system = std::fs::read(format!("{folder}shoebox.system"))?;
+//! let hall = Sections::new(&system, &[]).hall_list(Sections::SYSTEM)?;
+//! for model in hall.models() {
+//!     for geometry in model.geometries() {
+//!         assert!(geometry.disagreements().is_empty());
+//!         let Some(vertices) = geometry.vertex_buffer else { continue };
+//!         for vertex in vertices.to_unified_vertices()? {
+//!             assert!(vertex.position[2] >= 0.0, "nothing lies below the floor");
+//!         }
+//!     }
+//! }
+//! # Ok(())
+//! # }
+//! ```
+//!
+//! | to do this | use |
+//! |---|---|
+//! | list the models and geometries of a drawable | [`Sections::hall_list`], [`HallList::models`] |
+//! | see where its counts disagree | [`DrawableGeometry::disagreements`], [`DrawableModel::disagreements`] |
+//! | read vertices as they are stored, or in one form | [`Vertices::read_vertex_attributes`], [`Vertices::to_unified_vertices`] |
+//! | find a vertex buffer by its address | [`Sections::vertex_buffer_at`] |
+//! | convert halves and normalised bytes | [`convert`] |
+
+#![deny(unsafe_code)]
+
+mod attribute;
+mod buffer;
+mod bytes;
+#[allow(unsafe_code)]
+mod calls;
+pub mod convert;
+mod declaration;
+mod disagreement;
+mod geometry;
+mod lend;
+mod list;
+mod model;
+mod record;
+mod refusal;
+mod sections;
+mod types;
+mod unified;
+
+pub use attribute::{VertexAttribute, VertexAttributeValue};
+pub use buffer::{InlineVertices, VertexBuffer, VertexBufferLayout, Vertices};
+pub use declaration::{VertexComponent, VertexDeclaration};
+pub use disagreement::Disagreement;
+pub use geometry::{DrawableGeometry, Geometries, IndexBuffer, Indices};
+pub use lend::ALLOCATION_LIMIT;
+pub use list::HallList;
+pub use model::{DrawableModel, Models};
+pub use refusal::Refusal;
+pub use sections::Sections;
+pub use types::{VertexComponentType, VertexSemantic};
+pub use unified::UnifiedVertex;

@@ -1,0 +1,123 @@
+//! What a call that cannot be done answers.
+
+use crate::calls::Told;
+use std::fmt;
+
+/// A refused call: the number of the check that failed, and the bytes that its output would have needed. No byte of the output was changed.
+///
+/// It is shown as one line in plain words:
+///
+/// ```
+/// use calicofern::Sections;
+/// # let system = std::fs::read(concat!(env!("CARGO_MANIFEST_DIR"), "/../../samples/shoebox.system")).unwrap();
+/// let refusal = Sections::new(&system, &[]).hall_list_into(Sections::SYSTEM, &mut [0; 100]).unwrap_err();
+/// assert_eq!(refusal.check(), 7);
+/// let needed = refusal.needed().unwrap();
+/// assert_eq!(
+///     refusal.to_string(),
+///     format!("check 7: the buffer for the list is too short: {needed} bytes are needed, 100 were lent")
+/// );
+/// ```
+#[derive(Debug, Clone, Copy, PartialEq, Eq)]
+pub struct Refusal {
+    check: u8,
+    needed: u64,
+    lent: u64,
+    /// Whether `lent` is a limit on what would have been allocated.
+    limit: bool,
+}
+
+impl Refusal {
+    /// The number of the check that failed, 1 to 10.
+    pub fn check(&self) -> u8 {
+        self.check
+    }
+
+    /// The bytes that the output needs, for checks 7 and 10.
+    pub fn needed(&self) -> Option<u64> {
+        matches!(self.check, 7 | 10).then_some(self.needed)
+    }
+
+    /// The bytes that the output had, or was allowed to have, for checks 7 and 10.
+    pub fn lent(&self) -> Option<u64> {
+        self.needed().map(|_| self.lent)
+    }
+
+    /// What the check asks for, in words, without its number and the bytes.
+    pub fn text(&self) -> &'static str {
+        match self.check {
+            1 => "a section is too long: the system and the graphics section may have 67108864 bytes each",
+            2 => "the list of model pointers is not inside its section: the address and the count in the LOD header must lead to it",
+            3 => "a model is not inside its section: each model pointer that is not 0 must lead to 48 bytes",
+            4 => "a model's list of geometry pointers is not inside its section: the model's address and count must lead to it",
+            5 => "there are too many geometries: a list holds at most 16384",
+            6 => "a geometry is not inside its section: each geometry pointer that is not 0 must lead to 152 bytes",
+            7 => "the buffer for the list is too short",
+            8 => "there is no such vertex: its index must be below the number of vertices",
+            9 => "a vertex is not inside its data: every component that has bytes must end inside the vertex data",
+            10 => "the output is too short",
+            _ => "a check that this version does not know",
+        }
+    }
+
+    /// The library's answer as a result: the bytes written, or the refusal of a call that lent so many bytes.
+    pub(crate) fn told(told: Told, lent: usize) -> Result<usize, Refusal> {
+        match told {
+            // what was written lies in the output, so its length is a usize
+            Told { check: 0, size } => Ok(size as usize),
+            Told { check, size } => Err(Refusal { check, needed: size, lent: lent as u64, limit: false }),
+        }
+    }
+
+    /// The same refusal where no more than so many bytes may be allocated.
+    pub(crate) fn with_limit(self, limit: usize) -> Refusal {
+        Refusal { lent: limit as u64, limit: true, ..self }
+    }
+}
+
+impl fmt::Display for Refusal {
+    fn fmt(&self, out: &mut fmt::Formatter<'_>) -> fmt::Result {
+        write!(out, "check {}: {}", self.check, self.text())?;
+        match (self.needed(), self.lent()) {
+            (Some(needed), Some(limit)) if self.limit => write!(out, ": {needed} bytes are needed, and the limit is {limit}"),
+            (Some(needed), Some(lent)) => write!(out, ": {needed} bytes are needed, {lent} were lent"),
+            _ => Ok(()),
+        }
+    }
+}
+
+impl std::error::Error for Refusal {}
+
+#[cfg(test)]
+mod tests {
+    use super::*;
+
+    fn refusal(check: u8, size: u64, lent: usize) -> Refusal {
+        Refusal::told(Told { check, size }, lent).unwrap_err()
+    }
+
+    #[test]
+    fn an_acceptance_is_the_length() {
+        assert_eq!(Refusal::told(Told { check: 0, size: 127 }, 200), Ok(127));
+    }
+
+    #[test]
+    fn each_check_has_its_own_line() {
+        let lines: Vec<String> = (1..=10).map(|check| refusal(check, 0, 0).to_string()).collect();
+        for (line, check) in lines.iter().zip(1..) {
+            assert!(line.starts_with(&format!("check {check}: ")) && !line.contains('\n'), "{line}");
+            assert_eq!(lines.iter().filter(|other| other[8..] == line[8..]).count(), 1, "{line}");
+        }
+    }
+
+    #[test]
+    fn bytes_are_told_where_an_output_is_too_short() {
+        let line = "check 7: the buffer for the list is too short: 127 bytes are needed, 100 were lent";
+        assert_eq!(refusal(7, 127, 100).to_string(), line);
+        assert_eq!(refusal(7, 127, 100).needed(), Some(127));
+        assert_eq!(refusal(10, 84, 0).to_string(), "check 10: the output is too short: 84 bytes are needed, 0 were lent");
+        let line = "check 7: the buffer for the list is too short: 127 bytes are needed, and the limit is 99";
+        assert_eq!(refusal(7, 127, 0).with_limit(99).to_string(), line);
+        assert_eq!((refusal(6, 0, 9).needed(), refusal(6, 0, 9).lent()), (None, None));
+    }
+}

@@ -1,0 +1,194 @@
+//! The command line program on the drawables in samples/.
+
+use std::path::{Path, PathBuf};
+use std::process::{Command, Output};
+
+fn hall(words: &[&str]) -> Output {
+    let root = Path::new(env!("CARGO_MANIFEST_DIR")).join("../..");
+    Command::new(env!("CARGO_BIN_EXE_hall")).args(words).current_dir(root).output().expect("hall starts")
+}
+
+/// What it prints, where it ends well and says nothing on standard error.
+fn printed(words: &[&str]) -> String {
+    let done = hall(words);
+    let said = String::from_utf8_lossy(&done.stderr).into_owned();
+    assert_eq!((done.status.code(), said.as_str()), (Some(0), ""), "{words:?}");
+    String::from_utf8(done.stdout).unwrap()
+}
+
+/// Its exit status and the one line on standard error, where it prints nothing.
+fn failed(words: &[&str]) -> (i32, String) {
+    let done = hall(words);
+    assert!(done.stdout.is_empty(), "{words:?}");
+    let said = String::from_utf8(done.stderr).unwrap();
+    assert_eq!(said.lines().count(), 1, "{said}");
+    (done.status.code().unwrap(), said.trim_end().to_string())
+}
+
+/// A folder of a test's own.
+fn folder(name: &str) -> PathBuf {
+    let folder = Path::new(env!("CARGO_TARGET_TMPDIR")).join(name);
+    std::fs::create_dir_all(&folder).unwrap();
+    folder
+}
+
+fn path(folder: &Path, name: &str) -> String {
+    folder.join(name).display().to_string()
+}
+
+#[test]
+fn list_shows_a_sound_hall() {
+    let text = printed(&["list", "samples/shoebox"]);
+    assert!(text.starts_with("samples/shoebox: 17,648 bytes of system section, 0 of graphics section, read at 0x50000000\n"), "{text}");
+    assert!(text.contains("model 1: binding 0x00000000 (bone 0, not skinned), mask 0x00ff, 4 geometries\n"), "{text}");
+    assert!(text.contains("         1       3         80      240    240       120    120      32  Legacy  d0\n"), "{text}");
+    assert!(text.contains("d0               32  Position Float3, Normal Float3, TexCoord0 Float2\n"), "{text}");
+    assert!(text.ends_with("\n2 models, 7 geometries, 382 triangles\nall counts agree\n"), "{text}");
+}
+
+#[test]
+fn list_marks_counts_that_disagree() {
+    let text = printed(&["list", "samples/damaged"]);
+    let marked: Vec<&str> = text.lines().filter(|line| line.starts_with("! ") && line.contains("Legacy")).collect();
+    assert_eq!(marked.len(), 2, "{text}");
+    assert!(
+        text.contains("\n4 pairs of numbers disagree:\n! model 0 geometry 1: index count 147, but count of the index block 150"),
+        "{text}"
+    );
+}
+
+#[test]
+fn list_writes_the_bytes() {
+    let file = path(&folder("list"), "layouts.list");
+    let text = printed(&["list", "--bytes", &file, "--system", "samples/layouts.system", "--graphics", "samples/layouts.graphics"]);
+    let length = std::fs::metadata(&file).unwrap().len();
+    assert!(text.ends_with(&format!("wrote the list, {},{:03} bytes, to {file}\n", length / 1000, length % 1000)), "{text}");
+    assert!(text.contains("GeometryInline  none\n") && text.contains("LegacyData2     d1\n") && text.contains("Gen9 "), "{text}");
+}
+
+#[test]
+fn an_address_without_a_header_has_no_models() {
+    let text = printed(&["list", "samples/shoebox", "--at", "0x5fffffff"]);
+    assert!(text.ends_with("no models: the LOD header at this address lists none, or is not inside its section\n"), "{text}");
+}
+
+#[test]
+fn refusals_are_one_line_and_status_1() {
+    let folder = folder("refused");
+    let cut = path(&folder, "cut.system");
+    let whole = std::fs::read(Path::new(env!("CARGO_MANIFEST_DIR")).join("../../samples/shoebox.system")).unwrap();
+    std::fs::write(&cut, &whole[..9000]).unwrap();
+    let (status, said) = failed(&["list", "--system", &cut]);
+    assert_eq!(status, 1);
+    assert!(said.starts_with("hall: check 2: the list of model pointers is not inside its section"), "{said}");
+    let (status, said) = failed(&["list", "samples/shoebox", "--limit", "100"]);
+    assert_eq!(status, 1);
+    assert_eq!(said, "hall: check 7: the buffer for the list is too short: 17397 bytes are needed, and the limit is 100");
+    let (status, said) = failed(&["vertices", "samples/shoebox", "--vertex", "54"]);
+    assert_eq!((status, said.starts_with("hall: check 8: there is no such vertex")), (1, true), "{said}");
+    let (status, said) = failed(&["vertices", "samples/shoebox", "--vertex", "0xffffffffffffffff"]);
+    assert_eq!((status, said.starts_with("hall: check 8: ")), (1, true), "{said}");
+}
+
+#[test]
+fn wrong_usage_is_one_line_and_status_2() {
+    for words in [
+        &[][..],
+        &["what"],
+        &["list"],
+        &["list", "samples/nothing"],
+        &["list", "samples/shoebox", "more"],
+        &["list", "samples/shoebox", "--more"],
+        &["list", "samples/shoebox", "--at"],
+        &["list", "samples/shoebox", "--at", "here"],
+        &["list", "--graphics", "samples/layouts.graphics"],
+        &["list", "samples/shoebox", "--bytes", "samples/shoebox.system/file"],
+        &["vertices", "samples/shoebox", "--model", "2"],
+        &["vertices", "samples/shoebox", "--geometry", "3"],
+        &["vertices", "samples/damaged", "--geometry", "3"],
+        &["vertices", "samples/shoebox", "--all"],
+        &["halves"],
+        &["halves", "0x123"],
+        &["halves", "one"],
+        &["halves", "--to-floats", "samples/shoebox.system"],
+        &["demo", "more"],
+    ] {
+        let (status, said) = failed(words);
+        assert_eq!((status, said.starts_with("hall: ")), (2, true), "{words:?}: {said}");
+    }
+}
+
+#[test]
+fn vertices_are_shown() {
+    let text = printed(&["vertices", "samples/layouts", "--geometry", "1", "--vertex", "22"]);
+    let lines: Vec<&str> = text.lines().collect();
+    // the last two of 24
+    assert_eq!(lines.len(), 3, "{text}");
+    assert!(lines[0].starts_with("vertex ") && lines[0].ends_with("Position Half4              Normal Float4  TexCoord0 Float2"), "{text}");
+    assert!(lines[2].starts_with("    23 "), "{text}");
+    assert_eq!(printed(&["vertices", "samples/layouts", "--count", "3"]).lines().count(), 4);
+}
+
+#[test]
+fn vertices_are_written() {
+    let folder = folder("vertices");
+    let (unified, obj) = (path(&folder, "stage.unified"), path(&folder, "stage.obj"));
+    let text = printed(&["vertices", "samples/shoebox", "--model", "1", "--unified", &unified, "--obj", &obj]);
+    assert!(
+        text.contains("wrote 25 unified vertices, 84 bytes each, to ") && text.contains("wrote 25 positions and 24 triangles to "),
+        "{text}"
+    );
+    assert_eq!(std::fs::metadata(&unified).unwrap().len(), 25 * 84);
+    let lines = std::fs::read_to_string(&obj).unwrap();
+    assert!(lines.starts_with("g model_1_geometry_0_shader_2\nv 3 1 1\nv 6.5 1 1\n"), "{lines}");
+    assert!(lines.ends_with("\n") && lines.lines().filter(|line| line.starts_with("f ")).count() == 24, "{lines}");
+}
+
+#[test]
+fn a_whole_hall_is_written_as_obj() {
+    let file = path(&folder("obj"), "hall.obj");
+    printed(&["vertices", "samples/damaged", "--obj", &file, "--all"]);
+    let text = std::fs::read_to_string(&file).unwrap();
+    assert!(text.ends_with("# model_0_geometry_3_shader_2: no vertices found\n"));
+    let vertices = text.lines().filter(|line| line.starts_with("v ")).count();
+    // faces count from 1 over all groups
+    let corners = text.lines().filter(|line| line.starts_with("f ")).flat_map(|line| line[2..].split(' '));
+    let corners: Vec<usize> = corners.map(|corner| corner.parse().unwrap()).collect();
+    assert_eq!((corners.iter().min(), corners.iter().max()), (Some(&1), Some(&vertices)));
+}
+
+#[test]
+fn halves_both_ways() {
+    let text = printed(&["halves", "0x7c01", "-0.1", "0x3f801000"]);
+    let cells: Vec<Vec<&str>> = text.lines().map(|line| line.split_whitespace().collect()).collect();
+    assert_eq!(cells[1], ["0x7c01", "0x7c01", "0x7f802000", "NaN"]);
+    assert_eq!(cells[2], ["-0.1", "0xae66", "0xbdcccccd", "-0.1"]);
+    assert_eq!(cells[3], ["0x3f801000", "0x3c00", "0x3f801000", "1.0004883"]);
+    let folder = folder("halves");
+    let (halves, floats, back) = (path(&folder, "halves"), path(&folder, "floats"), path(&folder, "back"));
+    std::fs::write(&halves, [0x00, 0x3C, 0x01, 0x00]).unwrap();
+    assert!(printed(&["halves", "--to-floats", &halves, &floats]).starts_with("wrote 2 numbers, 4 bytes each, to "));
+    assert_eq!(std::fs::read(&floats).unwrap(), [0, 0, 0x80, 0x3F, 0, 0, 0x80, 0x33]);
+    printed(&["halves", "--to-halves", &floats, &back]);
+    assert_eq!(std::fs::read(&back).unwrap(), std::fs::read(&halves).unwrap());
+}
+
+#[test]
+fn the_demo_says_what_it_wrote() {
+    let folder = folder("demo");
+    let text = printed(&["demo", "--out", &folder.display().to_string()]);
+    for name in ["shoebox.list", "balcony.unified", "shoebox.obj"] {
+        assert!(text.contains(&path(&folder, name)) && folder.join(name).metadata().unwrap().len() > 1000, "{text}");
+    }
+}
+
+#[test]
+fn help_and_version() {
+    let help = printed(&["--help"]);
+    for command in ["list", "vertices", "halves", "demo"] {
+        assert!(help.contains(&format!("\n  hall {command} ")), "{help}");
+    }
+    assert_eq!(printed(&["list", "--help"]), help);
+    assert!(help.lines().all(|line| line.len() <= 110), "{help}");
+    assert_eq!(printed(&["--version"]), format!("hall {}\n", env!("CARGO_PKG_VERSION")));
+}
