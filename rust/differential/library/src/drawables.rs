@@ -1,15 +1,27 @@
 //! Drawables from a seed: well-formed ones of every layout, declaration and index form, odd ones, and damaged ones.
+use std::fmt;
+
 use crate::numbers::Random;
 
 pub const SYSTEM: u64 = 0x5000_0000;
 pub const GRAPHICS: u64 = 0x6000_0000;
 
 /// Two sections and the address of a LOD header.
-#[derive(Debug, Clone)]
+#[derive(Clone)]
 pub struct Drawable {
     pub system: Vec<u8>,
     pub graphics: Vec<u8>,
     pub va: u64,
+}
+
+impl fmt::Debug for Drawable {
+    fn fmt(&self, formatter: &mut fmt::Formatter<'_>) -> fmt::Result {
+        let shown = |bytes: &[u8]| match bytes.len() {
+            0..=65_536 => bytes.iter().map(|byte| format!("{byte:02x}")).collect(),
+            length => format!("({length} bytes)"),
+        };
+        write!(formatter, "system {} graphics {} address {:x}", shown(&self.system), shown(&self.graphics), self.va)
+    }
 }
 
 /// How a drawable was made.

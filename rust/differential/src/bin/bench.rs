@@ -33,8 +33,8 @@ fn main() {
         }
     }
     for (size, count) in [("small", 16_000), ("large", 1_920_000)] {
-        for (kind, any) in [("usual values", false), ("any bits", true)] {
-            bench_numbers(&bench, &format!("{size}, {kind}"), count, any);
+        for kind in [Numbers::Usual, Numbers::SomeTiny, Numbers::Any] {
+            bench_numbers(&bench, size, count, kind);
         }
     }
 }
@@ -309,10 +309,46 @@ fn four(v: Vec4) -> [f32; 4] {
     [v.x, v.y, v.z, v.w]
 }
 
-fn bench_numbers(bench: &Bench, name: &str, count: usize, any: bool) {
+/// What is converted.
+#[derive(Clone, Copy, PartialEq)]
+enum Numbers {
+    /// Multiples of 0.001 up to 2.
+    Usual,
+    /// The same, with one number in a hundred below the normal halves.
+    SomeTiny,
+    Any,
+}
+
+impl Numbers {
+    fn name(self) -> &'static str {
+        match self {
+            Self::Usual => "usual values",
+            Self::SomeTiny => "1 in 100 tiny",
+            Self::Any => "any bits",
+        }
+    }
+
+    fn float(self, random: &mut Random) -> u32 {
+        match self {
+            Self::Any => random.next() as u32,
+            Self::SomeTiny if random.below(100) == 0 => 1e-5f32.to_bits(),
+            _ => usual(random).to_bits(),
+        }
+    }
+
+    fn half(self, random: &mut Random) -> u16 {
+        match self {
+            Self::Any => random.next() as u16,
+            _ => oracle::blocks::xml::f32_to_f16(f32::from_bits(self.float(random))),
+        }
+    }
+}
+
+fn bench_numbers(bench: &Bench, size: &str, count: usize, kind: Numbers) {
+    let name = format!("{size}, {}", kind.name());
     let random = &mut Random::new(11);
-    let halves: Vec<u8> = (0..count).flat_map(|_| (if any { random.next() as u16 } else { usual_half(random) }).to_le_bytes()).collect();
-    let floats: Vec<u8> = (0..count).flat_map(|_| (if any { random.next() as u32 } else { usual(random).to_bits() }).to_le_bytes()).collect();
+    let halves: Vec<u8> = (0..count).flat_map(|_| kind.half(random).to_le_bytes()).collect();
+    let floats: Vec<u8> = (0..count).flat_map(|_| kind.float(random).to_le_bytes()).collect();
     let bytes = random.bytes(count);
     let goal = Goal { rust: Some(0.5), memcpy: None };
     bench_run(bench, &format!("halves to floats, {name}"), goal, &halves, 4 * count, halves_to_floats, |from, to| {
@@ -325,18 +361,20 @@ fn bench_numbers(bench: &Bench, name: &str, count: usize, any: bool) {
             to.copy_from_slice(&oracle::blocks::xml::f32_to_f16(f32::from_bits(u32_le(from, 0))).to_le_bytes());
         }
     });
-    if !any {
+    if kind == Numbers::Usual {
         bench_run(bench, &format!("snorm to floats, {name}"), NO_GOAL, &bytes, 4 * count, snorm8_to_floats, |from, to| {
             for (to, from) in to.chunks_exact_mut(4).zip(from) {
                 to.copy_from_slice(&oracle::vertex::snorm8_to_f32(*from).to_bits().to_le_bytes());
             }
         });
     }
-    bench_run(bench, &format!("floats to snorm, {name}"), NO_GOAL, &floats, count, floats_to_snorm8, |from, to| {
-        for (to, from) in to.iter_mut().zip(from.chunks_exact(4)) {
-            *to = oracle::encode::snorm_byte(f32::from_bits(u32_le(from, 0)));
-        }
-    });
+    if kind != Numbers::SomeTiny {
+        bench_run(bench, &format!("floats to snorm, {name}"), NO_GOAL, &floats, count, floats_to_snorm8, |from, to| {
+            for (to, from) in to.iter_mut().zip(from.chunks_exact(4)) {
+                *to = oracle::encode::snorm_byte(f32::from_bits(u32_le(from, 0)));
+            }
+        });
+    }
 }
 
 type Run = fn(&[u8], &mut [u8]) -> Told;

@@ -1,5 +1,5 @@
 //! Whole drawables: the list, what is asked of lists and models, each vertex buffer, and the vertices in it.
-use library::drawables::{drawable, small, Drawable, GRAPHICS, KINDS, SYSTEM};
+use library::drawables::{drawable, put, small, Drawable, GRAPHICS, KINDS, SYSTEM};
 use library::numbers::Random;
 use library::{bone_index, hall_list, is_skinned, triangle_count, vertex_buffer, Stream, Told};
 use oracle::list::{declaration_bytes, layout_number, written};
@@ -120,7 +120,26 @@ pub fn limits() -> String {
         assert_eq!(told, Told { check: 1, size: 0 }, "section {which} one byte above the limit");
         assert!(list.iter().all(|byte| *byte == FILL));
     }
-    "67,108,864 bytes read in both sections, 67,108,865 in either refused with 1".to_owned()
+    let mut tally = Tally::default();
+    all_three_bits(&mut tally);
+    format!("67,108,864 bytes read in both sections, 67,108,865 in either refused with 1; buffers at 0x70000000 {:?}", &tally.layouts[..4])
+}
+
+/// 0x70000000 is graphics. Only sections above the limit reach so far, and `vertex_buffer` takes them.
+fn all_three_bits(tally: &mut Tally) {
+    const AT: usize = 0x1000_0000;
+    let mut far = Drawable { system: vec![0; 2 * AT + 0x100], graphics: vec![0; AT + 0x100], va: 0 };
+    far.system[2 * AT..].fill(0x11);
+    far.graphics[AT + 0x80..].fill(0x22);
+    put(&mut far.graphics, AT + 0x08, 4, 2);
+    put(&mut far.graphics, AT + 0x10, 0x7000_0080, 8);
+    put(&mut far.graphics, AT + 0x18, 3, 4);
+    let Drawable { system, graphics, .. } = &far;
+    let reader = ResReader { system, graphics };
+    for va in [0, 0x7000_0000] {
+        let stream = Stream { va, inline_pointer: 0x7000_0080, inline_count: 2, inline_stride: 4 };
+        compare_buffer(tally, &far, &reader, stream, "sections above the limit");
+    }
 }
 
 pub fn compare(tally: &mut Tally, drawable: &Drawable, name: &str) {
