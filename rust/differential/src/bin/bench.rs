@@ -4,7 +4,9 @@
 //! of all rounds the least time is shown, and ratios of the least times and of the medians. Outputs were written once before the first round and are
 //! not cleared between rounds; what the Rust allocates by itself it allocates in each call.
 //!
-//!     bench [--quick] [PART]     fewer rounds; only the rows whose names hold PART
+//!     bench [--quick | --once] [PART]
+//!
+//! `--quick` takes fewer rounds, `--once` makes each call of the library once and times nothing, for callgrind; PART names the rows that hold it.
 use std::hint::black_box;
 
 use library::drawables::{put, Drawable, GRAPHICS, SYSTEM};
@@ -16,9 +18,16 @@ use oracle::vertex::{parse_vertex_buffer_at, UnifiedVertex};
 
 fn main() {
     let words: Vec<String> = std::env::args().skip(1).collect();
-    let quick = words.iter().any(|word| word == "--quick");
+    let has = |name: &str| words.iter().any(|word| word == name);
+    let rounds = if has("--once") {
+        0
+    } else if has("--quick") {
+        5
+    } else {
+        25
+    };
     let only = words.into_iter().find(|word| !word.starts_with("--"));
-    let bench = Bench { rounds: if quick { 5 } else { 25 }, only };
+    let bench = Bench { rounds, only };
     println!("| work | bytes out | Rattle ms | Rust ms | memcpy ms | of the Rust: least, median | of memcpy: least, median | goal |");
     println!("|---|---|---|---|---|---|---|---|");
     for (size, vertices) in [("small", 4_000), ("large", 480_000)] {
@@ -124,6 +133,9 @@ impl Bench {
     }
 
     fn row(&self, name: &str, bytes: usize, goal: Goal, works: &mut [&mut dyn FnMut(); 3]) {
+        if self.rounds == 0 {
+            return;
+        }
         let [here, rust, memcpy] = self.times(works);
         let of_rust = here.least / rust.least;
         let of_memcpy = here.least / memcpy.least;
