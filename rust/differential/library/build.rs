@@ -1,6 +1,6 @@
 //! Links the static library that `rt staticlib exports` makes. CALICOFERN_LIB names another folder that holds it.
-use std::path::{Path, PathBuf};
 use std::env;
+use std::path::{Path, PathBuf};
 
 fn main() {
     println!("cargo:rerun-if-env-changed=CALICOFERN_LIB");

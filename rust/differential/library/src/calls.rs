@@ -80,9 +80,7 @@ extern "C" {
 pub fn hall_list(system: &[u8], graphics: &[u8], va: u64, list: &mut [u8]) -> Told {
     let mut size = UNWRITTEN;
     // SAFETY: each pointer has its slice's length, and the outputs overlap nothing.
-    let check = unsafe {
-        calicofern_hall_list(system.as_ptr(), system.len(), graphics.as_ptr(), graphics.len(), va, list.as_mut_ptr(), list.len(), &mut size)
-    };
+    let check = unsafe { calicofern_hall_list(system.as_ptr(), system.len(), graphics.as_ptr(), graphics.len(), va, list.as_mut_ptr(), list.len(), &mut size) };
     Told { check, size }
 }
 
@@ -135,9 +133,7 @@ pub fn vertex_attributes(vertices: Vertices, index: u64, out: &mut [u8]) -> Told
     let Vertices { data, stride, count, flags, types } = vertices;
     let mut size = UNWRITTEN;
     // SAFETY: each pointer has its slice's length, and the outputs overlap nothing.
-    let check = unsafe {
-        calicofern_vertex_attributes(data.as_ptr(), data.len(), stride, count, flags, types, index, out.as_mut_ptr(), out.len(), &mut size)
-    };
+    let check = unsafe { calicofern_vertex_attributes(data.as_ptr(), data.len(), stride, count, flags, types, index, out.as_mut_ptr(), out.len(), &mut size) };
     Told { check, size }
 }
 
@@ -145,9 +141,7 @@ pub fn unified_vertices(vertices: Vertices, out: &mut [u8]) -> Told {
     let Vertices { data, stride, count, flags, types } = vertices;
     let mut size = UNWRITTEN;
     // SAFETY: each pointer has its slice's length, and the outputs overlap nothing.
-    let check = unsafe {
-        calicofern_unified_vertices(data.as_ptr(), data.len(), stride, count, flags, types, out.as_mut_ptr(), out.len(), &mut size)
-    };
+    let check = unsafe { calicofern_unified_vertices(data.as_ptr(), data.len(), stride, count, flags, types, out.as_mut_ptr(), out.len(), &mut size) };
     Told { check, size }
 }
 

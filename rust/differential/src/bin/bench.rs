@@ -3,6 +3,8 @@
 //! Time is the thread's processor time, so that other programs on the machine count less. In each round the two and `memcpy` run one after the other;
 //! of all rounds the least time is shown, and ratios of the least times and of the medians. Outputs were written once before the first round and are
 //! not cleared between rounds; what the Rust allocates by itself it allocates in each call.
+//!
+//!     bench [--quick] [PART]     fewer rounds; only the rows whose names hold PART
 use std::hint::black_box;
 
 use library::drawables::{put, Drawable, GRAPHICS, SYSTEM};
@@ -13,12 +15,14 @@ use oracle::resource::{u16_le, u32_le, ResReader};
 use oracle::vertex::{parse_vertex_buffer_at, UnifiedVertex};
 
 fn main() {
-    let quick = std::env::args().any(|word| word == "--quick");
-    let bench = Bench { rounds: if quick { 5 } else { 25 } };
+    let words: Vec<String> = std::env::args().skip(1).collect();
+    let quick = words.iter().any(|word| word == "--quick");
+    let only = words.into_iter().find(|word| !word.starts_with("--"));
+    let bench = Bench { rounds: if quick { 5 } else { 25 }, only };
     println!("| work | bytes out | Rattle ms | Rust ms | memcpy ms | of the Rust: least, median | of memcpy: least, median | goal |");
     println!("|---|---|---|---|---|---|---|---|");
     for (size, vertices) in [("small", 4_000), ("large", 480_000)] {
-        let goal = if vertices > 4_000 { Goal { rust: 0.5, memcpy: Some(1.3) } } else { Goal { rust: 0.5, memcpy: None } };
+        let goal = if vertices > 4_000 { Goal { rust: Some(0.5), memcpy: Some(1.3) } } else { NO_GOAL };
         for width in [2, 4] {
             bench_list(&bench, &format!("hall list, {size}, {width}-byte indices"), vertices, width, goal);
         }
@@ -44,14 +48,32 @@ const DECLARATIONS: [(&str, u32, u64); 5] = [
     ("floats, skinned (GTAV1)", 0x405F, 0x7755_5555_5599_6996),
 ];
 
+/// The greatest ratios that are wanted, to the Rust and to `memcpy`.
 #[derive(Clone, Copy)]
 struct Goal {
-    rust: f64,
+    rust: Option<f64>,
     memcpy: Option<f64>,
+}
+
+const NO_GOAL: Goal = Goal { rust: None, memcpy: None };
+
+impl Goal {
+    fn said(self, of_rust: f64, of_memcpy: f64) -> String {
+        let parts = [("", self.rust, of_rust), ("memcpy ", self.memcpy, of_memcpy)];
+        let wanted: Vec<String> = parts.iter().filter_map(|(of, most, _)| most.map(|most| format!("{of}{most}"))).collect();
+        let met = parts.iter().all(|(_, most, found)| most.is_none_or(|most| *found <= most));
+        match (wanted.is_empty(), met) {
+            (true, _) => "none".to_owned(),
+            (_, true) => wanted.join(", ") + ": met",
+            (_, false) => wanted.join(", ") + ": missed",
+        }
+    }
 }
 
 struct Bench {
     rounds: usize,
+    /// A part of the names of the rows that are wanted.
+    only: Option<String>,
 }
 
 #[repr(C)]
@@ -80,6 +102,10 @@ struct Times {
 }
 
 impl Bench {
+    fn leaves_out(&self, name: &str) -> bool {
+        self.only.as_ref().is_some_and(|part| !name.contains(part))
+    }
+
     /// The times of three works, one after the other in each round.
     fn times(&self, works: &mut [&mut dyn FnMut(); 3]) -> [Times; 3] {
         let calls = works.each_mut().map(|work| calls_of(*work));
@@ -101,17 +127,14 @@ impl Bench {
         let [here, rust, memcpy] = self.times(works);
         let of_rust = here.least / rust.least;
         let of_memcpy = here.least / memcpy.least;
-        let met = of_rust <= goal.rust && goal.memcpy.is_none_or(|most| of_memcpy <= most);
         println!(
-            "| {name} | {bytes} | {:.4} | {:.4} | {:.4} | {of_rust:.2}, {:.2} | {of_memcpy:.2}, {:.2} | {}{}: {} |",
+            "| {name} | {bytes} | {:.4} | {:.4} | {:.4} | {of_rust:.2}, {:.2} | {of_memcpy:.2}, {:.2} | {} |",
             here.least,
             rust.least,
             memcpy.least,
             here.median / rust.median,
             here.median / memcpy.median,
-            goal.rust,
-            goal.memcpy.map_or(String::new(), |most| format!(", memcpy {most}")),
-            if met { "met" } else { "missed" }
+            goal.said(of_rust, of_memcpy)
         );
     }
 }
@@ -177,12 +200,17 @@ fn drawable(vertices: usize, index_width: usize) -> Drawable {
 }
 
 fn bench_list(bench: &Bench, name: &str, vertices: usize, index_width: usize, goal: Goal) {
+    if bench.leaves_out(name) {
+        return;
+    }
     let Drawable { system, graphics, va } = &drawable(vertices, index_width);
     let expected = oracle::list::written(&oracle::models(system, graphics, *va).unwrap().models);
     let (mut here, mut rust, mut copy) = (vec![1; expected.len()], vec![1; expected.len()], vec![1; expected.len()]);
     assert_eq!(hall_list(system, graphics, *va, &mut here), Told { check: 0, size: expected.len() as u64 });
     assert!(here == expected);
-    let mut list = || { black_box(hall_list(black_box(system), graphics, *va, &mut here)); };
+    let mut list = || {
+        black_box(hall_list(black_box(system), graphics, *va, &mut here));
+    };
     let mut original = || {
         let lod = oracle::models(black_box(system), graphics, *va).unwrap();
         black_box(oracle::list::write(&mut rust, &lod.models));
@@ -217,6 +245,9 @@ fn usual_half(random: &mut Random) -> u16 {
 }
 
 fn bench_unified(bench: &Bench, name: &str, count: usize, flags: u32, types: u64) {
+    if bench.leaves_out(name) {
+        return;
+    }
     let stride = library::drawables::declared_size(flags, types);
     let data = vertex_data(count, types, flags);
     assert_eq!(data.len(), count * stride);
@@ -237,10 +268,12 @@ fn bench_unified(bench: &Bench, name: &str, count: usize, flags: u32, types: u64
     write_unified(&mut rust, &buffer.to_unified_vertices().unwrap_or_else(|e| panic!("{e}")));
     assert!(here == rust);
     let expected = here.clone();
-    let mut unify = || { black_box(unified_vertices(black_box(vertices), &mut here)); };
+    let mut unify = || {
+        black_box(unified_vertices(black_box(vertices), &mut here));
+    };
     let mut original = || write_unified(&mut rust, &black_box(&buffer).to_unified_vertices().unwrap_or_else(|e| panic!("{e}")));
     let mut memcpy = || black_box(&mut copy).copy_from_slice(black_box(&expected));
-    bench.row(name, expected.len(), Goal { rust: 0.25, memcpy: None }, &mut [&mut unify, &mut original, &mut memcpy]);
+    bench.row(name, expected.len(), Goal { rust: Some(0.25), memcpy: None }, &mut [&mut unify, &mut original, &mut memcpy]);
 }
 
 /// 84 bytes a vertex, in field order.
@@ -281,38 +314,46 @@ fn bench_numbers(bench: &Bench, name: &str, count: usize, any: bool) {
     let halves: Vec<u8> = (0..count).flat_map(|_| (if any { random.next() as u16 } else { usual_half(random) }).to_le_bytes()).collect();
     let floats: Vec<u8> = (0..count).flat_map(|_| (if any { random.next() as u32 } else { usual(random).to_bits() }).to_le_bytes()).collect();
     let bytes = random.bytes(count);
-    bench_run(bench, &format!("halves to floats, {name}"), &halves, 4 * count, halves_to_floats, |from, to| {
+    let goal = Goal { rust: Some(0.5), memcpy: None };
+    bench_run(bench, &format!("halves to floats, {name}"), goal, &halves, 4 * count, halves_to_floats, |from, to| {
         for (to, from) in to.chunks_exact_mut(4).zip(from.chunks_exact(2)) {
             to.copy_from_slice(&oracle::vertex::f16_to_f32(u16_le(from, 0)).to_bits().to_le_bytes());
         }
     });
-    bench_run(bench, &format!("floats to halves, {name}"), &floats, 2 * count, floats_to_halves, |from, to| {
+    bench_run(bench, &format!("floats to halves, {name}"), goal, &floats, 2 * count, floats_to_halves, |from, to| {
         for (to, from) in to.chunks_exact_mut(2).zip(from.chunks_exact(4)) {
             to.copy_from_slice(&oracle::blocks::xml::f32_to_f16(f32::from_bits(u32_le(from, 0))).to_le_bytes());
         }
     });
     if !any {
-        bench_run(bench, &format!("snorm to floats, {name}"), &bytes, 4 * count, snorm8_to_floats, |from, to| {
+        bench_run(bench, &format!("snorm to floats, {name}"), NO_GOAL, &bytes, 4 * count, snorm8_to_floats, |from, to| {
             for (to, from) in to.chunks_exact_mut(4).zip(from) {
                 to.copy_from_slice(&oracle::vertex::snorm8_to_f32(*from).to_bits().to_le_bytes());
             }
         });
     }
-    bench_run(bench, &format!("floats to snorm, {name}"), &floats, count, floats_to_snorm8, |from, to| {
+    bench_run(bench, &format!("floats to snorm, {name}"), NO_GOAL, &floats, count, floats_to_snorm8, |from, to| {
         for (to, from) in to.iter_mut().zip(from.chunks_exact(4)) {
             *to = oracle::encode::snorm_byte(f32::from_bits(u32_le(from, 0)));
         }
     });
 }
 
-fn bench_run(bench: &Bench, name: &str, from: &[u8], length: usize, run: fn(&[u8], &mut [u8]) -> Told, original: impl Fn(&[u8], &mut [u8])) {
+type Run = fn(&[u8], &mut [u8]) -> Told;
+
+fn bench_run(bench: &Bench, name: &str, goal: Goal, from: &[u8], length: usize, run: Run, original: impl Fn(&[u8], &mut [u8])) {
+    if bench.leaves_out(name) {
+        return;
+    }
     let (mut here, mut rust, mut copy) = (vec![1; length], vec![1; length], vec![1; length]);
     assert_eq!(run(from, &mut here), Told { check: 0, size: length as u64 });
     original(from, &mut rust);
     assert!(here == rust);
     let expected = here.clone();
-    let mut convert = || { black_box(run(black_box(from), &mut here)); };
+    let mut convert = || {
+        black_box(run(black_box(from), &mut here));
+    };
     let mut loops = || original(black_box(from), black_box(&mut rust));
     let mut memcpy = || black_box(&mut copy).copy_from_slice(black_box(&expected));
-    bench.row(name, length, Goal { rust: 0.5, memcpy: None }, &mut [&mut convert, &mut loops, &mut memcpy]);
+    bench.row(name, length, goal, &mut [&mut convert, &mut loops, &mut memcpy]);
 }

@@ -5,9 +5,7 @@ use library::{declaration_id, unified_vertices, vertex_attributes, Told, Vertice
 use oracle::check_of;
 use oracle::math::{Vec2, Vec3, Vec4};
 use oracle::resource::{ResReader, SYSTEM_BASE};
-use oracle::vertex::{
-    parse_vertex_declaration_at, UnifiedVertex, VertexAttribute, VertexAttributeValue, VertexBuffer, VertexBufferLayout, VertexDeclaration,
-};
+use oracle::vertex::{parse_vertex_declaration_at, UnifiedVertex, VertexAttribute, VertexAttributeValue, VertexBuffer, VertexBufferLayout, VertexDeclaration};
 
 const FILL: u8 = 0x5A;
 
