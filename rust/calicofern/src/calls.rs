@@ -9,14 +9,14 @@
 //! its call. Functions of numbers alone take any number.
 
 /// What a call with an output answers: the number of the check that failed, or 0, and the bytes written or needed.
-#[derive(Clone, Copy)]
+#[derive(Debug, Clone, Copy, PartialEq, Eq)]
 pub struct Told {
     pub check: u8,
     pub size: u64,
 }
 
-/// A conversion of a run of numbers: source, destination, size.
-type Run = unsafe extern "C" fn(*const u8, usize, *mut u8, usize, *mut u64) -> u8;
+/// `size` before a call. The library writes it in every call; this number would show one that does not.
+const UNWRITTEN: u64 = 0x5EED_5EED_5EED_5EED;
 
 extern "C" {
     fn calicofern_hall_list(
@@ -85,7 +85,7 @@ extern "C" {
 }
 
 pub fn hall_list(system: &[u8], graphics: &[u8], va: u64, list: &mut [u8]) -> Told {
-    let mut size = 0;
+    let mut size = UNWRITTEN;
     // SAFETY: pointers and lengths of borrowed slices; `list` is an exclusive borrow and `size` a variable of this function.
     let check = unsafe {
         calicofern_hall_list(system.as_ptr(), system.len(), graphics.as_ptr(), graphics.len(), va, list.as_mut_ptr(), list.len(), &mut size)
@@ -98,18 +98,8 @@ pub fn triangle_count(list: &[u8]) -> u64 {
     unsafe { calicofern_triangle_count(list.as_ptr(), list.len()) }
 }
 
-pub fn bone_index(skeleton_binding: u32) -> u8 {
-    // SAFETY: a function of a number.
-    unsafe { calicofern_bone_index(skeleton_binding) }
-}
-
-pub fn is_skinned(skeleton_binding: u32) -> bool {
-    // SAFETY: a function of a number. It returns C's bool, which is Rust's.
-    unsafe { calicofern_is_skinned(skeleton_binding) }
-}
-
 pub fn vertex_buffer(system: &[u8], graphics: &[u8], va: u64, inline: (u64, u32, u16), out: &mut [u8]) -> Told {
-    let mut size = 0;
+    let mut size = UNWRITTEN;
     let (inline_pointer, inline_count, inline_stride) = inline;
     // SAFETY: pointers and lengths of borrowed slices; `out` is an exclusive borrow and `size` a variable of this function. The addresses are numbers:
     // the library looks them up in the sections.
@@ -132,7 +122,7 @@ pub fn vertex_buffer(system: &[u8], graphics: &[u8], va: u64, inline: (u64, u32,
 }
 
 pub fn vertex_attributes(data: &[u8], stride: u16, count: u32, flags: u32, types: u64, index: u64, out: &mut [u8]) -> Told {
-    let mut size = 0;
+    let mut size = UNWRITTEN;
     // SAFETY: pointers and lengths of borrowed slices; `out` is an exclusive borrow and `size` a variable of this function. Stride, count and index may
     // be any numbers: the library checks them against the data's length.
     let check = unsafe {
@@ -142,7 +132,7 @@ pub fn vertex_attributes(data: &[u8], stride: u16, count: u32, flags: u32, types
 }
 
 pub fn unified_vertices(data: &[u8], stride: u16, count: u32, flags: u32, types: u64, out: &mut [u8]) -> Told {
-    let mut size = 0;
+    let mut size = UNWRITTEN;
     // SAFETY: as for the attributes.
     let check = unsafe {
         calicofern_unified_vertices(data.as_ptr(), data.len(), stride, count, flags, types, out.as_mut_ptr(), out.len(), &mut size)
@@ -150,74 +140,46 @@ pub fn unified_vertices(data: &[u8], stride: u16, count: u32, flags: u32, types:
     Told { check, size }
 }
 
-pub fn declaration_id(flags: u32, types: u64) -> u64 {
-    // SAFETY: a function of numbers.
-    unsafe { calicofern_declaration_id(flags, types) }
+/// A function of numbers alone.
+macro_rules! numbers {
+    ($($name:ident = $c:ident($($argument:ident: $type:ty),*) -> $answer:ty;)*) => {
+        $(pub fn $name($($argument: $type),*) -> $answer {
+            // SAFETY: a function of numbers. C's bool is Rust's.
+            unsafe { $c($($argument),*) }
+        })*
+    };
 }
 
-pub fn f16_to_f32(half: u16) -> u32 {
-    // SAFETY: a function of a number.
-    unsafe { calicofern_f16_to_f32(half) }
+numbers! {
+    bone_index = calicofern_bone_index(skeleton_binding: u32) -> u8;
+    is_skinned = calicofern_is_skinned(skeleton_binding: u32) -> bool;
+    declaration_id = calicofern_declaration_id(flags: u32, types: u64) -> u64;
+    f16_to_f32 = calicofern_f16_to_f32(half: u16) -> u32;
+    f32_to_f16 = calicofern_f32_to_f16(bits: u32) -> u16;
+    snorm8_to_f32 = calicofern_snorm8_to_f32(byte: u8) -> u32;
+    unorm8_to_f32 = calicofern_unorm8_to_f32(byte: u8) -> u32;
+    f32_to_snorm8 = calicofern_f32_to_snorm8(bits: u32) -> u8;
+    f32_to_unorm8 = calicofern_f32_to_unorm8(bits: u32) -> u8;
+    snorm_colour8 = calicofern_snorm_colour8(bits: u32) -> u8;
 }
 
-pub fn f32_to_f16(bits: u32) -> u16 {
-    // SAFETY: a function of a number.
-    unsafe { calicofern_f32_to_f16(bits) }
+/// A run of numbers converted from one slice into another.
+macro_rules! runs {
+    ($($name:ident = $c:ident;)*) => {
+        $(pub fn $name(src: &[u8], dst: &mut [u8]) -> Told {
+            let mut size = UNWRITTEN;
+            // SAFETY: pointers and lengths of borrowed slices; `dst` is an exclusive borrow and `size` a variable of this function.
+            let check = unsafe { $c(src.as_ptr(), src.len(), dst.as_mut_ptr(), dst.len(), &mut size) };
+            Told { check, size }
+        })*
+    };
 }
 
-pub fn snorm8_to_f32(byte: u8) -> u32 {
-    // SAFETY: a function of a number.
-    unsafe { calicofern_snorm8_to_f32(byte) }
-}
-
-pub fn unorm8_to_f32(byte: u8) -> u32 {
-    // SAFETY: a function of a number.
-    unsafe { calicofern_unorm8_to_f32(byte) }
-}
-
-pub fn f32_to_snorm8(bits: u32) -> u8 {
-    // SAFETY: a function of a number.
-    unsafe { calicofern_f32_to_snorm8(bits) }
-}
-
-pub fn f32_to_unorm8(bits: u32) -> u8 {
-    // SAFETY: a function of a number.
-    unsafe { calicofern_f32_to_unorm8(bits) }
-}
-
-pub fn snorm_colour8(bits: u32) -> u8 {
-    // SAFETY: a function of a number.
-    unsafe { calicofern_snorm_colour8(bits) }
-}
-
-/// `call` is one of the library's six conversions of runs: the functions below name them, and nothing else calls this one.
-fn run(call: Run, src: &[u8], dst: &mut [u8]) -> Told {
-    let mut size = 0;
-    // SAFETY: pointers and lengths of borrowed slices; `dst` is an exclusive borrow and `size` a variable of this function.
-    let check = unsafe { call(src.as_ptr(), src.len(), dst.as_mut_ptr(), dst.len(), &mut size) };
-    Told { check, size }
-}
-
-pub fn halves_to_floats(src: &[u8], dst: &mut [u8]) -> Told {
-    run(calicofern_halves_to_floats, src, dst)
-}
-
-pub fn floats_to_halves(src: &[u8], dst: &mut [u8]) -> Told {
-    run(calicofern_floats_to_halves, src, dst)
-}
-
-pub fn snorm8_to_floats(src: &[u8], dst: &mut [u8]) -> Told {
-    run(calicofern_snorm8_to_floats, src, dst)
-}
-
-pub fn unorm8_to_floats(src: &[u8], dst: &mut [u8]) -> Told {
-    run(calicofern_unorm8_to_floats, src, dst)
-}
-
-pub fn floats_to_snorm8(src: &[u8], dst: &mut [u8]) -> Told {
-    run(calicofern_floats_to_snorm8, src, dst)
-}
-
-pub fn floats_to_unorm8(src: &[u8], dst: &mut [u8]) -> Told {
-    run(calicofern_floats_to_unorm8, src, dst)
+runs! {
+    halves_to_floats = calicofern_halves_to_floats;
+    floats_to_halves = calicofern_floats_to_halves;
+    snorm8_to_floats = calicofern_snorm8_to_floats;
+    unorm8_to_floats = calicofern_unorm8_to_floats;
+    floats_to_snorm8 = calicofern_floats_to_snorm8;
+    floats_to_unorm8 = calicofern_floats_to_unorm8;
 }

@@ -31,7 +31,8 @@ fn main() {
     for module in MODULES {
         let source = original().join("src").join(format!("{module}.rs.txt"));
         println!("cargo:rerun-if-changed={}", source.display());
-        let text = fs::read_to_string(&source).unwrap_or_else(|e| panic!("{}: {e}; RAGE_FORMATS says where the original is", source.display()));
+        let text =
+            fs::read_to_string(&source).unwrap_or_else(|e| panic!("{}: {e}; RAGE_FORMATS says where the original is", source.display()));
         if module == "blocks/vertex" {
             assert!(text.contains(SNORM_BYTE), "the line that encodes a snorm byte");
         }

@@ -239,7 +239,9 @@ fn vertex_data(count: usize, types: u64, flags: u32) -> Vec<u8> {
         for index in (0..16).filter(|index| flags >> index & 1 == 1) {
             match types >> (index * 4) & 15 {
                 kind @ (1 | 3) => (0..2 * kind.min(2)).for_each(|_| data.extend(usual_half(random).to_le_bytes())),
-                kind @ (2 | 5 | 6 | 7) => (0..[0, 0, 1, 0, 0, 2, 3, 4][kind as usize]).for_each(|_| data.extend(usual(random).to_bits().to_le_bytes())),
+                kind @ (2 | 5 | 6 | 7) => {
+                    (0..[0, 0, 1, 0, 0, 2, 3, 4][kind as usize]).for_each(|_| data.extend(usual(random).to_bits().to_le_bytes()))
+                }
                 8..=10 => data.extend((random.next() as u32).to_le_bytes()),
                 _ => {}
             }

@@ -1,8 +1,8 @@
 //! Numbers: all halves, all bytes, all floats, and runs of them.
 use library::numbers::{Random, FLOATS};
 use library::{
-    f16_to_f32, f32_to_f16, f32_to_snorm8, f32_to_unorm8, floats_to_halves, floats_to_snorm8, floats_to_unorm8, halves_to_floats, snorm8_to_f32,
-    snorm8_to_floats, snorm_colour8, unorm8_to_f32, unorm8_to_floats, Told,
+    f16_to_f32, f32_to_f16, f32_to_snorm8, f32_to_unorm8, floats_to_halves, floats_to_snorm8, floats_to_unorm8, halves_to_floats,
+    snorm8_to_f32, snorm8_to_floats, snorm_colour8, unorm8_to_f32, unorm8_to_floats, Told,
 };
 use oracle::encode;
 use oracle::math::Vec4;

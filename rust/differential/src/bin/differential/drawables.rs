@@ -30,7 +30,8 @@ pub struct Tally {
 
 impl Tally {
     fn said(&self) -> String {
-        let refusals: Vec<String> = (1..8).filter(|check| self.refusals[*check] > 0).map(|check| format!("{} by {check}", self.refusals[check])).collect();
+        let refusals: Vec<String> =
+            (1..8).filter(|check| self.refusals[*check] > 0).map(|check| format!("{} by {check}", self.refusals[check])).collect();
         format!(
             "lists {} ({} bytes; {} empty), refused {}, left out as too long {}; models {}; buffers by layout 0 to 3 {:?}, none {}, with a declaration {}; {}",
             self.lists,
@@ -74,7 +75,8 @@ pub fn changed(seed: u64, count: u64) -> String {
                 section(&mut cut, which).truncate(place);
                 compare(&mut tally, &cut, &format!("small drawable {number}, section {which} cut to {place}"));
                 truncations += 1;
-                for value in [byte ^ 1, byte ^ 0x10, byte ^ 0x80, byte.wrapping_add(1), byte.wrapping_sub(1), 0, 0xFF, random.next() as u8] {
+                for value in [byte ^ 1, byte ^ 0x10, byte ^ 0x80, byte.wrapping_add(1), byte.wrapping_sub(1), 0, 0xFF, random.next() as u8]
+                {
                     let mut other = whole.clone();
                     section(&mut other, which)[place] = value;
                     compare(&mut tally, &other, &format!("small drawable {number}, section {which} byte {place} = {value}"));

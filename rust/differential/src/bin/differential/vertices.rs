@@ -5,7 +5,9 @@ use library::{declaration_id, unified_vertices, vertex_attributes, Told, Vertice
 use oracle::check_of;
 use oracle::math::{Vec2, Vec3, Vec4};
 use oracle::resource::{ResReader, SYSTEM_BASE};
-use oracle::vertex::{parse_vertex_declaration_at, UnifiedVertex, VertexAttribute, VertexAttributeValue, VertexBuffer, VertexBufferLayout, VertexDeclaration};
+use oracle::vertex::{
+    parse_vertex_declaration_at, UnifiedVertex, VertexAttribute, VertexAttributeValue, VertexBuffer, VertexBufferLayout, VertexDeclaration,
+};
 
 const FILL: u8 = 0x5A;
 
@@ -24,7 +26,13 @@ impl Tally {
     pub fn said(&self) -> String {
         format!(
             "attributes {} in {} calls, refused {} by 8, {} by 9; unified vertices {} in {} calls, refused {} by 9",
-            self.attributes, self.attribute_calls, self.outside_count, self.outside_data, self.unified, self.unify_calls, self.unify_outside
+            self.attributes,
+            self.attribute_calls,
+            self.outside_count,
+            self.outside_data,
+            self.unified,
+            self.unify_calls,
+            self.unify_outside
         )
     }
 }
