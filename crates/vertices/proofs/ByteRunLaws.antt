@@ -1,5 +1,5 @@
 -- Loops over runs of bytes: one byte of the source, or of the destination, a turn. The answers of both conversions.
-use mathlib.Core.Path.{_≡_, sym, ap, _∙_}
+use mathlib.Core.Path.{_≡_, sym, ap, subst, _∙_}
 use mathlib.Core.List.{List}
 use Prim.Native.Nat.{ℕ, _+_, _-_, _*_, _/_, _^_, _≤_, _<_, min}
 use native.Mathlib.Nat.{mul-one}
@@ -13,7 +13,7 @@ use Rattle.vertices.specs.ByteRuns.{Widened}
 use Rattle.vertices.specs.Runs.{converted, Converted}
 use Rattle.vertices.specs.declared.runs.RunAnswer.the-variants.{Written, Needs}
 use Rattle.vertices.proofs.RunLaws.{converted-one}
-use Rattle.vertices.proofs.RunLoops.{Converting, run-turn}
+use Rattle.vertices.proofs.RunLoops.{Converting, run-turn, converted-yes, converted-no}
 
 module _ {k m : ℕ} {f : ℕ → ℕ} {s d : List ℕ} {n : ℕ} {b : List ℕ} {i : ℕ} (c : Converting k m f s d 0 n b i) where
   -- one number more, from the first on
@@ -52,14 +52,8 @@ module _ {f : ℕ → ℕ} {s d : List ℕ} where
 module _ {k : ℕ} {f : ℕ → ℕ} {s d : List ℕ} where
   -- the bytes fit
   pub narrowed-yes : {t : List ℕ} → length s / k ≤ length d → t ≡ overwrite d 0 (converted k 1 f (length s / k) s) → Converted k 1 f s d (Written (length s / k)) t
-  narrowed-yes h e =
-      let same : length s / k * 1 ≡ length s / k = mul-one (length s / k) in
-      let ok = le-leb (0 + length s / k) (length d) (omega arith) in
-      record { answer = rw (same, ok); bytes = rw (same, ok) e }
+  narrowed-yes {t} h e = subst (λ (n : ℕ). Converted k 1 f s d (Written n) t) (mul-one (length s / k)) (converted-yes (rw mul-one h) e)
 
   -- d is too short
   pub narrowed-no : length d < length s / k → Converted k 1 f s d (Needs (length s / k)) d
-  narrowed-no h =
-      let same : length s / k * 1 ≡ length s / k = mul-one (length s / k) in
-      let no = lt-leb (0 + length s / k) (length d) (omega arith) in
-      record { answer = rw (same, no); bytes = rw (same, no) }
+  narrowed-no h = subst (λ (n : ℕ). Converted k 1 f s d (Needs n) d) (mul-one (length s / k)) (converted-no (rw mul-one h))
