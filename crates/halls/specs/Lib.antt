@@ -7,3 +7,11 @@ pub mod Outcome
 pub mod Listing
 pub mod Records
 pub mod Triangles
+pub mod Every
+pub mod Hall
+pub mod HallRecords
+pub mod Parsing
+pub mod ImageSize
+pub mod Checks
+pub mod State
+pub mod Judging

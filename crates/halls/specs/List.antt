@@ -55,21 +55,34 @@ unfoldable pub each : {A : Type 0} → (A → List ℕ) → List A → List ℕ
 each f [] = []
 each f (x ∷ xs) = f x ++ each f xs
 
+-- the bodies of kinds 1, 2, 4 and 5; that of kind 3 is the declaration's 16 bytes
+
+abbrev pub modelBody : Model → List ℕ
+modelBody m = bytes 4 (m .binding) ++ (bytes 2 (m .mask) ++ run 2 (m .mapping))
+
+abbrev pub geometryBody : Geometry → List ℕ
+geometryBody g = bytes 2 (g .shader) ++ (bytes 4 (g .indexCount) ++ (bytes 4 (g .triangleCount) ++ (bytes 2 (g .vertexCount) ++ bytes 2 (g .stride))))
+
+abbrev pub verticesBody : Vertices → List ℕ
+verticesBody v = bytes 1 (v .layout) ++ (bytes 2 (v .stride) ++ (bytes 4 (v .count) ++ v .content))
+
+abbrev pub indicesBody : Indices → List ℕ
+indicesBody i = bytes 4 (i .count) ++ run 4 (i .items)
+
 unfoldable pub modelRecord : Model → List ℕ
-modelRecord m = recordBytes 1 (bytes 4 (m .binding) ++ (bytes 2 (m .mask) ++ run 2 (m .mapping)))
+modelRecord m = recordBytes 1 (modelBody m)
 
 unfoldable pub geometryRecord : Geometry → List ℕ
-geometryRecord g =
-    recordBytes 2 (bytes 2 (g .shader) ++ (bytes 4 (g .indexCount) ++ (bytes 4 (g .triangleCount) ++ (bytes 2 (g .vertexCount) ++ bytes 2 (g .stride)))))
+geometryRecord g = recordBytes 2 (geometryBody g)
 
 unfoldable pub declarationRecord : VertexDeclaration → List ℕ
 declarationRecord d = recordBytes 3 (declarationBytes d)
 
 unfoldable pub verticesRecord : Vertices → List ℕ
-verticesRecord v = recordBytes 4 (bytes 1 (v .layout) ++ (bytes 2 (v .stride) ++ (bytes 4 (v .count) ++ v .content)))
+verticesRecord v = recordBytes 4 (verticesBody v)
 
 unfoldable pub indicesRecord : Indices → List ℕ
-indicesRecord i = recordBytes 5 (bytes 4 (i .count) ++ run 4 (i .items))
+indicesRecord i = recordBytes 5 (indicesBody i)
 
 unfoldable pub writeGeometry : Geometry → List ℕ
 writeGeometry g =

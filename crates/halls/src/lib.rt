@@ -1,5 +1,7 @@
 // Halls: the list of a drawable's models and geometries.
 mod answer;
+mod check;
+mod judge;
 mod list;
 mod measure;
 mod model;
@@ -13,6 +15,7 @@ mod write;
 
 pub use answer::Answer;
 pub use answer::Refusal;
+pub use check::Verdict;
 pub use list::hall_list;
 pub use model::bone_index;
 pub use model::is_skinned;
