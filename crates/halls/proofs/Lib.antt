@@ -17,3 +17,6 @@ pub mod ReaderParts
 pub mod ListingLaws
 pub mod RecordLaws
 pub mod TriangleLaws
+pub mod FrontLaws
+pub mod WalkLaws
+pub mod TallyLaws

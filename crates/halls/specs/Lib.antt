@@ -15,3 +15,4 @@ pub mod ImageSize
 pub mod Checks
 pub mod State
 pub mod Judging
+pub mod Walk

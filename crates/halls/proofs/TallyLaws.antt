@@ -1,0 +1,150 @@
+-- What a walk adds up is what the verdict asks: the lowest check that fails anywhere, the counts, and the image's size.
+use mathlib.Core.Path.{_≡_, refl, sym, ap, _∙_}
+use mathlib.Core.Bool.{Bool, true, false, cond, _&&_, and-true}
+use mathlib.Core.List.{List, [], _∷_, map}
+use Prim.{Unit}
+use Prim.Native.Nat.{ℕ, zero, suc, _+_, _*_, _-_, _/_, _≤_, _<_, min}
+use native.Mathlib.Omega.{arith}
+use borrow.Author.Tests.{eq-eqb, ne-eqb, eqb-true, lt-leb}
+use lib.Dec.{eqb, leb}
+use lib.ListN.{length, drop, length-drop}
+use Rattle.sections.proofs.AddressLaws.{both-true}
+use Rattle.vertices.specs.Runs.{numbers}
+use Rattle.vertices.proofs.RunLaws.{numbers-length}
+use Rattle.halls.specs.Every.{every, sumOf}
+use Rattle.halls.specs.Checks.{vertexBytesExact, sameNumbers, shaderIds, mappingMatches, geometryCount, countsWithinLimits, stridesAgree, componentsInside, vertexCountsAgree, indexCountsAgree, indicesInRange, imageWithinLimit, require, everyGeometry, verdict}
+use Rattle.halls.specs.Hall.{FullGeometry, FullModel, Hall}
+use Rattle.halls.specs.ImageSize.{padded, geometrySize, modelSize, imageSize}
+use Rattle.halls.specs.Judging.{passed, lowestOf}
+use Rattle.halls.specs.Parsing.{mappingCount, geometriesIn, modelsIn, geometryIn, bodyAt}
+use Rattle.halls.specs.Records.{Record}
+use Rattle.halls.specs.Triangles.{heldCount}
+use Rattle.halls.specs.Walk.{leads, rest, isEmpty, failing, lowestFrom, kindCount, units, modelUnits, geometryUnits, unitsFrom, verdictOf, geometryOf}
+use Rattle.halls.specs.declared.check.Verdict.{Verdict}
+use Rattle.halls.specs.declared.check.Verdict.the-variants.{Sound, Fails}
+
+-- ---- the lowest of some checks
+
+-- the first number whose test fails
+abbrev lowestFailing : List ℕ → List Bool → ℕ
+lowestFailing [] bs = passed
+lowestFailing (n ∷ ns) [] = passed
+lowestFailing (n ∷ ns) (b ∷ bs) = cond b (lowestFailing ns bs) n
+
+abbrev Rising : ℕ → List ℕ → Type 0
+Rising low [] = low ≤ passed
+Rising low (n ∷ ns) = (low ≤ n) × Rising n ns
+
+abbrev bothPass : List Bool → List Bool → List Bool
+bothPass [] cs = []
+bothPass (b ∷ bs) [] = []
+bothPass (b ∷ bs) (c ∷ cs) = (b && c) ∷ bothPass bs cs
+
+rising-passed : (low : ℕ) (ns : List ℕ) → Rising low ns → low ≤ passed
+rising-passed low [] r = r
+rising-passed low (n ∷ ns) r = omega (arith, r .0, rising-passed n ns (r .1))
+
+failing-above : (low : ℕ) (ns : List ℕ) (bs : List Bool) → Rising low ns → low ≤ lowestFailing ns bs
+failing-above low [] bs r = r
+failing-above low (n ∷ ns) [] r = rising-passed low (n ∷ ns) r
+failing-above low (n ∷ ns) (true ∷ bs) r = omega (arith, r .0, failing-above n ns bs (r .1))
+failing-above low (n ∷ ns) (false ∷ bs) r = r .0
+
+-- the lower of two is that of both tests together
+lowest-both : (low : ℕ) (ns : List ℕ) (bs cs : List Bool) → length bs ≡ length ns → length cs ≡ length ns → Rising low ns
+    → min (lowestFailing ns bs) (lowestFailing ns cs) ≡ lowestFailing ns (bothPass bs cs)
+lowest-both low [] bs cs e f r = refl
+lowest-both low (n ∷ ns) [] cs e f r = absurd (omega arith)
+lowest-both low (n ∷ ns) (b ∷ bs) [] e f r = absurd (omega arith)
+lowest-both low (n ∷ ns) (true ∷ bs) (true ∷ cs) e f r = lowest-both n ns bs cs (omega arith) (omega arith) (r .1)
+lowest-both low (n ∷ ns) (true ∷ bs) (false ∷ cs) e f r = omega (arith, failing-above n ns bs (r .1))
+lowest-both low (n ∷ ns) (false ∷ bs) (true ∷ cs) e f r = omega (arith, failing-above n ns cs (r .1))
+lowest-both low (n ∷ ns) (false ∷ bs) (false ∷ cs) e f r = omega arith
+
+-- ---- checks 12 to 19
+
+abbrev checks : List ℕ
+checks = 12 ∷ 13 ∷ 14 ∷ 15 ∷ 16 ∷ 17 ∷ 18 ∷ 19 ∷ []
+
+rising : Rising 12 checks
+rising = omega arith
+
+abbrev lowestAmong : Bool → Bool → Bool → Bool → Bool → Bool → Bool → Bool → ℕ
+lowestAmong a b c d e f g h = lowestFailing checks (a ∷ b ∷ c ∷ d ∷ e ∷ f ∷ g ∷ h ∷ [])
+
+together : (a b c d e f g h a′ b′ c′ d′ e′ f′ g′ h′ : Bool)
+    → min (lowestAmong a b c d e f g h) (lowestAmong a′ b′ c′ d′ e′ f′ g′ h′) ≡ lowestAmong (a && a′) (b && b′) (c && c′) (d && d′) (e && e′) (f && f′) (g && g′) (h && h′)
+together a b c d e f g h a′ b′ c′ d′ e′ f′ g′ h′ =
+    lowest-both 12 checks (a ∷ b ∷ c ∷ d ∷ e ∷ f ∷ g ∷ h ∷ []) (a′ ∷ b′ ∷ c′ ∷ d′ ∷ e′ ∷ f′ ∷ g′ ∷ h′ ∷ []) refl refl rising
+
+-- of all geometries
+unfoldable lowestOfAll : List FullGeometry → ℕ
+lowestOfAll [] = passed
+lowestOfAll (g ∷ gs) = min (lowestOf g) (lowestOfAll gs)
+
+all-geometries : (gs : List FullGeometry)
+    → lowestOfAll gs ≡ lowestAmong true true (every stridesAgree gs) (every componentsInside gs) (every vertexCountsAgree gs) (every indexCountsAgree gs) (every indicesInRange gs) true
+unfolding lowestOfAll lowestOf every
+all-geometries [] = refl
+all-geometries (g ∷ gs) =
+    ap (min (lowestOf g)) (all-geometries gs)
+    ∙ together true true (stridesAgree g) (componentsInside g) (vertexCountsAgree g) (indexCountsAgree g) (indicesInRange g) true
+    true true (every stridesAgree gs) (every componentsInside gs) (every vertexCountsAgree gs) (every indexCountsAgree gs) (every indicesInRange gs) true
+
+-- of all models
+unfoldable lowestOfModels : Hall → ℕ
+lowestOfModels [] = passed
+lowestOfModels (m ∷ ms) = min (failing 12 (mappingMatches m)) (min (lowestOfAll (m .geometries)) (lowestOfModels ms))
+
+abbrev modelsLowest : Hall → ℕ
+modelsLowest h =
+    lowestAmong (every mappingMatches h) true (everyGeometry stridesAgree h) (everyGeometry componentsInside h) (everyGeometry vertexCountsAgree h) (everyGeometry indexCountsAgree h) (everyGeometry indicesInRange h) true
+
+all-models : (h : Hall) → lowestOfModels h ≡ modelsLowest h
+unfolding lowestOfModels every
+all-models [] = refl
+all-models (m ∷ ms) =
+    let gs : List FullGeometry = m .geometries in
+    rw (all-geometries gs, all-models ms)
+    (ap (min (failing 12 (mappingMatches m))) (together true true (every stridesAgree gs) (every componentsInside gs) (every vertexCountsAgree gs) (every indexCountsAgree gs) (every indicesInRange gs) true
+    (every mappingMatches ms) true (everyGeometry stridesAgree ms) (everyGeometry componentsInside ms) (everyGeometry vertexCountsAgree ms) (everyGeometry indexCountsAgree ms) (everyGeometry indicesInRange ms) true)
+    ∙ together (mappingMatches m) true true true true true true true
+    (every mappingMatches ms) true (every stridesAgree gs && everyGeometry stridesAgree ms) (every componentsInside gs && everyGeometry componentsInside ms) (every vertexCountsAgree gs && everyGeometry vertexCountsAgree ms) (every indexCountsAgree gs && everyGeometry indexCountsAgree ms) (every indicesInRange gs && everyGeometry indicesInRange ms) true)
+
+-- ---- the verdict
+
+abbrev requireAll : List ℕ → List Bool → Verdict
+requireAll [] bs = Sound
+requireAll (n ∷ ns) [] = Sound
+requireAll (n ∷ ns) (b ∷ bs) = require n b (requireAll ns bs)
+
+abbrev Low : List ℕ → Type 0
+Low [] = Unit {0}
+Low (n ∷ ns) = (n < passed) × Low ns
+
+all-required : (ns : List ℕ) (bs : List Bool) → Low ns → verdictOf (lowestFailing ns bs) ≡ requireAll ns bs
+all-required [] bs l = refl
+all-required (n ∷ ns) [] l = refl
+all-required (n ∷ ns) (true ∷ bs) l = all-required ns bs (l .1)
+all-required (n ∷ ns) (false ∷ bs) l = rw (lt-leb passed n (l .0))
+
+low : Low checks
+low = (omega arith, omega arith, omega arith, omega arith, omega arith, omega arith, omega arith, omega arith, tt)
+
+module _ (h : Hall) where
+  abbrev among : Bool → Bool → Bool → Bool → Bool → Bool → ℕ
+  among a c d e f g = lowestAmong a (countsWithinLimits h) c d e f g (imageWithinLimit h)
+
+  -- checks 12 and 14 to 18 by models, 13 and 19 of the whole
+  lowest-all : min (modelsLowest h) (cond (countsWithinLimits h) (failing 19 (imageWithinLimit h)) 13)
+      ≡ among (every mappingMatches h) (everyGeometry stridesAgree h) (everyGeometry componentsInside h) (everyGeometry vertexCountsAgree h) (everyGeometry indexCountsAgree h) (everyGeometry indicesInRange h)
+  lowest-all =
+      together (every mappingMatches h) true (everyGeometry stridesAgree h) (everyGeometry componentsInside h) (everyGeometry vertexCountsAgree h) (everyGeometry indexCountsAgree h) (everyGeometry indicesInRange h) true
+      true (countsWithinLimits h) true true true true true (imageWithinLimit h)
+      ∙ rw (and-true (every mappingMatches h), and-true (everyGeometry stridesAgree h), and-true (everyGeometry componentsInside h), and-true (everyGeometry vertexCountsAgree h), and-true (everyGeometry indexCountsAgree h), and-true (everyGeometry indicesInRange h))
+
+  pub verdict-lowest : everyGeometry vertexBytesExact h ≡ true → verdictOf (min (lowestOfModels h) (cond (countsWithinLimits h) (failing 19 (imageWithinLimit h)) 13)) ≡ verdict h
+  unfolding verdict
+  verdict-lowest e =
+      rw (all-models h, lowest-all, e)
+      (all-required checks (every mappingMatches h ∷ countsWithinLimits h ∷ everyGeometry stridesAgree h ∷ everyGeometry componentsInside h ∷ everyGeometry vertexCountsAgree h ∷ everyGeometry indexCountsAgree h ∷ everyGeometry indicesInRange h ∷ imageWithinLimit h ∷ []) low)
