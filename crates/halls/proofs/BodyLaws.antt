@@ -3,18 +3,18 @@ use mathlib.Core.Path.{_≡_, refl, sym, ap, _∙_}
 use mathlib.Core.Bool.{true}
 use mathlib.Core.List.{List, [], _∷_, _++_, append-assoc, append-nil}
 use Prim.{Unit}
-use Prim.Native.Nat.{ℕ, zero, suc, _+_, _*_, _-_, _/_, _^_, _≤_, _<_}
+use Prim.Native.Nat.{ℕ, zero, suc, _+_, _*_, _^_, _≤_, _<_}
 use native.Mathlib.Nat.{suc-mul}
 use native.Mathlib.Omega.{arith}
 use borrow.Author.Tests.{eq-eqb}
-use lib.Dec.{eqb, lit<}
+use lib.Dec.{lit<}
 use lib.ListN.{length, take, drop, getD, length-append, length-drop, take-append-drop, drop-of-length-le}
 use lib.Seq.{drop-at, drop-drop, getD-drop, length-take-le, take-all}
 use Rattle.sections.specs.Edit.{part}
 use Rattle.sections.specs.Le.{le, bytes, field}
 use Rattle.sections.proofs.EditLaws.{part-add, take-below}
 use Rattle.sections.proofs.LeLaws.{field-bound, field-bytes, le-bound, length-bytes}
-use Rattle.vertices.specs.Declaration.{InWidth, declarationAt, declarationBytes}
+use Rattle.vertices.specs.Declaration.{declarationAt, declarationBytes}
 use Rattle.vertices.specs.Runs.{numbers, run}
 use Rattle.vertices.proofs.DeclarationLaws.{declaration-in-width, declaration-inverse, declaration-written-back}
 use Rattle.vertices.proofs.RunLaws.{length-run, numbers-length, numbers-run, run-numbers}
@@ -221,7 +221,7 @@ verticesIn b = record { layout = field 1 b 0; stride = field 2 b 1; count = fiel
 pub vertices-body-length : (v : Vertices) → length (verticesBody v) ≡ 7 + length (v .content)
 vertices-body-length v = simp (length-append, length-bytes) (omega arith)
 
-vertices-read-back : (v : Vertices) → v .layout < 2 ^ 8 → v .stride < 2 ^ 16 → v .count < 2 ^ 32 → verticesIn (verticesBody v) ≡ v
+pub vertices-read-back : (v : Vertices) → v .layout < 2 ^ 8 → v .stride < 2 ^ 16 → v .count < 2 ^ 32 → verticesIn (verticesBody v) ≡ v
 vertices-read-back v h i j =
     let b : List ℕ = verticesBody v in
     let values : List ℕ = v .layout ∷ v .stride ∷ v .count ∷ [] in

@@ -18,3 +18,6 @@ pub mod ListingLaws
 pub mod RecordLaws
 pub mod TriangleLaws
 pub mod BodyLaws
+pub mod RecordBytes
+pub mod EveryLaws
+pub mod ParsingLaws
