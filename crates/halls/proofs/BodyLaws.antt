@@ -25,6 +25,7 @@ use Rattle.halls.specs.Hall.{FullGeometry, FullModel, FullGeometryInWidt
 use Rattle.halls.specs.Parsing.{mappingCount, contentLength, dueLength, modelIn, geometryIn}
 use Rattle.halls.specs.Triangles.{heldCount}
 use Rattle.halls.specs.Checks.{vertexBytesExact}
+use Rattle.halls.proofs.EveryLaws.{each-below}
 use Rattle.halls.proofs.RecordLaws.{field-behind}
 
 -- every element is a byte
@@ -99,12 +100,6 @@ unfolding part
 put-whole ws s f h = put-fields ws s 0 f (omega arith) (drop (total ws) s) ∙ take-append-drop (total ws) s
 
 -- ---- runs
-
-each-below : (n : ℕ) → 0 < n → (xs : List ℕ) → Each (λ (i : ℕ). i < n) xs → (i : ℕ) → getD xs i 0 < n
-unfolding Each
-each-below n p [] w i = p
-each-below n p (x ∷ xs) w zero = w .0
-each-below n p (x ∷ xs) w (suc i) = each-below n p xs (w .1) i
 
 numbers-below : (k n : ℕ) (s : List ℕ) → AllBytes s → n * k ≤ length s → Each (λ (i : ℕ). i < 256 ^ k) (numbers k n s)
 unfolding Each numbers

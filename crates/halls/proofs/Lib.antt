@@ -21,3 +21,5 @@ pub mod BodyLaws
 pub mod RecordBytes
 pub mod EveryLaws
 pub mod ParsingLaws
+pub mod SoundLaws
+pub mod StateLaws
