@@ -210,7 +210,7 @@ module _ {b : List ℕ} (p : Proper 3 b) where
 abbrev verticesWidths : List ℕ
 verticesWidths = 1 ∷ 2 ∷ 4 ∷ []
 
-abbrev verticesIn : List ℕ → Vertices
+abbrev pub verticesIn : List ℕ → Vertices
 verticesIn b = record { layout = field 1 b 0; stride = field 2 b 1; count = field 4 b 3; content = drop 7 b }
 
 pub vertices-body-length : (v : Vertices) → length (verticesBody v) ≡ 7 + length (v .content)
@@ -238,13 +238,13 @@ module _ {b : List ℕ} (p : Proper 4 b) where
 abbrev indicesWidths : List ℕ
 indicesWidths = 4 ∷ []
 
-abbrev indicesIn : List ℕ → Indices
+abbrev pub indicesIn : List ℕ → Indices
 indicesIn b = record { count = field 4 b 0; items = numbers 4 (heldCount b) (drop 4 b) }
 
 pub indices-body-length : (i : Indices) → length (indicesBody i) ≡ 4 + 4 * length (i .items)
 indices-body-length i = simp (length-append, length-bytes, length-run) (omega arith)
 
-indices-read-back : (i : Indices) → i .count < 2 ^ 32 → Each (λ (n : ℕ). n < 2 ^ 32) (i .items) → indicesIn (indicesBody i) ≡ i
+pub indices-read-back : (i : Indices) → i .count < 2 ^ 32 → Each (λ (n : ℕ). n < 2 ^ 32) (i .items) → indicesIn (indicesBody i) ≡ i
 indices-read-back i h w =
     let b : List ℕ = indicesBody i in
     let values : List ℕ = i .count ∷ [] in
