@@ -20,3 +20,9 @@ pub mod TriangleLaws
 pub mod FrontLaws
 pub mod WalkLaws
 pub mod TallyLaws
+pub mod BodyLaws
+pub mod RecordBytes
+pub mod EveryLaws
+pub mod ParsingLaws
+pub mod SoundLaws
+pub mod StateLaws

@@ -78,7 +78,7 @@ together a b c d e f g h a′ b′ c′ d′ e′ f′ g′ h′ =
     lowest-both 12 checks (a ∷ b ∷ c ∷ d ∷ e ∷ f ∷ g ∷ h ∷ []) (a′ ∷ b′ ∷ c′ ∷ d′ ∷ e′ ∷ f′ ∷ g′ ∷ h′ ∷ []) refl refl rising
 
 -- of all geometries
-unfoldable lowestOfAll : List FullGeometry → ℕ
+unfoldable pub lowestOfAll : List FullGeometry → ℕ
 lowestOfAll [] = passed
 lowestOfAll (g ∷ gs) = min (lowestOf g) (lowestOfAll gs)
 
@@ -92,7 +92,7 @@ all-geometries (g ∷ gs) =
     true true (every stridesAgree gs) (every componentsInside gs) (every vertexCountsAgree gs) (every indexCountsAgree gs) (every indicesInRange gs) true
 
 -- of all models
-unfoldable lowestOfModels : Hall → ℕ
+unfoldable pub lowestOfModels : Hall → ℕ
 lowestOfModels [] = passed
 lowestOfModels (m ∷ ms) = min (failing 12 (mappingMatches m)) (min (lowestOfAll (m .geometries)) (lowestOfModels ms))
 
@@ -129,7 +129,7 @@ all-required (n ∷ ns) (true ∷ bs) l = all-required ns bs (l .1)
 all-required (n ∷ ns) (false ∷ bs) l = rw (lt-leb passed n (l .0))
 
 low : Low checks
-low = (omega arith, omega arith, omega arith, omega arith, omega arith, omega arith, omega arith, omega arith, tt)
+low = (omega arith, (omega arith, (omega arith, (omega arith, (omega arith, (omega arith, (omega arith, (omega arith, tt))))))))
 
 module _ (h : Hall) where
   abbrev among : Bool → Bool → Bool → Bool → Bool → Bool → ℕ
@@ -148,3 +148,49 @@ module _ (h : Hall) where
   verdict-lowest e =
       rw (all-models h, lowest-all, e)
       (all-required checks (every mappingMatches h ∷ countsWithinLimits h ∷ everyGeometry stridesAgree h ∷ everyGeometry componentsInside h ∷ everyGeometry vertexCountsAgree h ∷ everyGeometry indexCountsAgree h ∷ everyGeometry indicesInRange h ∷ imageWithinLimit h ∷ []) low)
+
+-- ---- what the records behind come to
+
+failing-bound : (b : Bool) → failing 12 b ≤ passed
+failing-bound true = omega arith
+failing-bound false = omega arith
+
+-- check 12, number by number
+same-none : (left : List ℕ) → sameNumbers left [] ≡ isEmpty left
+unfolding sameNumbers
+same-none [] = refl
+same-none (x ∷ left) = refl
+
+same-next : (left : List ℕ) (x : ℕ) (xs : List ℕ) → failing 12 (sameNumbers left (x ∷ xs)) ≡ min (failing 12 (leads x left)) (failing 12 (sameNumbers (rest left) xs))
+unfolding sameNumbers
+same-next [] x xs = omega (arith, twelve (sameNumbers [] xs))
+  where
+    twelve : (b : Bool) → 12 ≤ failing 12 b
+    twelve true = omega arith
+    twelve false = omega arith
+same-next (y ∷ left) x xs = on (eqb y x) (sameNumbers left xs)
+  where
+    on : (a b : Bool) → failing 12 (a && b) ≡ min (failing 12 a) (failing 12 b)
+    on true true = refl
+    on true false = refl
+    on false true = refl
+    on false false = refl
+
+-- the lower of five, in another order
+regrouped : (a b c d e : ℕ) → min (min a b) (min c (min d e)) ≡ min (min a c) (min (min b d) e)
+regrouped a b c d e = swapped a b c (min d e) ∙ ap (min (min a c)) (joined b d e)
+  where
+    swapped : (a b c y : ℕ) → min (min a b) (min c y) ≡ min (min a c) (min b y)
+    swapped a b c y = omega arith
+
+    joined : (b d e : ℕ) → min b (min d e) ≡ min (min b d) e
+    joined b d e = omega arith
+
+pub lowest-from : (left : List ℕ) (rs : List Record)
+    → lowestFrom left rs ≡ min (failing 12 (sameNumbers left (shaderIds (geometriesIn rs)))) (min (lowestOfAll (geometriesIn rs)) (lowestOfModels (modelsIn rs)))
+unfolding lowestFrom geometriesIn modelsIn lowestOfAll lowestOfModels mappingMatches
+lowest-from left [] = rw (same-none left) (omega (arith, failing-bound (isEmpty left)))
+lowest-from left (r ∷ rs) = on (eqb (r .kind) 1) (eqb (r .kind) 2) refl refl
+  where
+    on : (t u : Bool) → eqb (r .kind) 1 ≡ t → eqb (r .kind) 2 ≡ u → ?
+    on t u h k = ?

@@ -1,11 +1,14 @@
 -- The abstract state of a hall (document 01, "Hall book"), and the list that it is written as.
+use mathlib.Core.Path.{_≡_}
 use mathlib.Core.List.{List, map}
 use Prim.Native.Nat.{ℕ, _+_, _*_, _/_, _^_, _<_}
 use lib.ListN.{length}
 use Rattle.vertices.specs.Declaration.{InWidth}
 use Rattle.vertices.specs.declared.declaration.VertexDeclaration.{VertexDeclaration}
+use Rattle.halls.specs.Checks.{verdict}
 use Rattle.halls.specs.Every.{sumOf, Each}
 use Rattle.halls.specs.Hall.{FullGeometry, FullModel, Hall, hallBytes}
+use Rattle.halls.specs.declared.check.Verdict.the-variants.{Sound}
 
 pub record Geometry : Type 0 where
   pub shader : ℕ
@@ -85,3 +88,10 @@ pub record ModelInWidth (m : Model) : Type 0 where
 
 abbrev pub StateInWidth : State → Type 0
 StateInWidth s = Each ModelInWidth s
+
+-- ---- bytes that are a state written out, and checks 11 to 19 pass
+
+pub record IsState (s : List ℕ) (st : State) : Type 0 where
+  pub inWidth : StateInWidth st
+  pub sound : verdict (hallOf st) ≡ Sound
+  pub bytes : stateBytes st ≡ s
