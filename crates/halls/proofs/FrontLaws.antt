@@ -1,6 +1,6 @@
 -- The records that some bytes begin with: what a model or a geometry at the front says of them, and that nothing else is a hall's.
 use mathlib.Core.Path.{_≡_, refl, sym, ap, _∙_, subst}
-use mathlib.Core.Bool.{Bool, true, false, cond, _&&_}
+use mathlib.Core.Bool.{Bool, true, false, cond, _&&_, and-false}
 use mathlib.Core.List.{List, [], _∷_}
 use mathlib.Core.Logic.{_⊎_, inl, inr, ⊎-elim}
 use Prim.Native.Nat.{ℕ, _+_, _*_, _-_, _/_, _≤_, _<_}
@@ -8,7 +8,7 @@ use native.Mathlib.Nat.{add-zero, lt-of-not-le}
 use native.Mathlib.Decide.{decLe}
 use native.Mathlib.Omega.{arith}
 use borrow.Author.Tests.{le-leb, eq-eqb, ne-eqb, eqb-true, eqb-false, leb-true}
-use lib.Dec.{T, eqb}
+use lib.Dec.{T, eqb, leb}
 use lib.ListN.{length, take, drop, length-drop}
 use lib.Seq.{drop-drop}
 use Rattle.sections.specs.Edit.{part, fits}
@@ -56,12 +56,19 @@ pub has-record : (s : List ℕ) (at kind n : ℕ) → RecordAt s at kind n → h
 unfolding hasRecord
 has-record s at kind n r = rw (le-leb (at + (6 + n)) (length s) (r .fits), eq-eqb (field 4 s at) n (r .length-is), eq-eqb (field 2 s (at + 4)) kind (r .kind-is))
 
-pub has-no-record : (s : List ℕ) (at kind n : ℕ) → (RecordAt s at kind n → ⊥) → hasRecord s at kind n ≡ false
-has-no-record s at kind n f = on (hasRecord s at kind n) refl
-  where
-    on : (t : Bool) → hasRecord s at kind n ≡ t → hasRecord s at kind n ≡ false
-    on true e = absurd (f (record-at s at kind n e))
-    on false e = e
+-- as the code tests it
+module _ (s : List ℕ) (at kind n : ℕ) where
+  pub record-outside : leb (at + (6 + n)) (length s) ≡ false → false ≡ hasRecord s at kind n
+  unfolding hasRecord
+  record-outside e = rw e
+
+  pub record-differs : {found : ℕ} → found ≡ field 4 s at → (found ≡ n → ⊥) → false ≡ hasRecord s at kind n
+  unfolding hasRecord
+  record-differs e f = rw (ne-eqb (field 4 s at) n (λ h. f (e ∙ h))) (sym (and-false (fits s at (6 + n))))
+
+  pub record-kind : {found : ℕ} → leb (at + (6 + n)) (length s) ≡ true → field 4 s at ≡ n → found ≡ field 2 s (at + 4) → eqb found kind ≡ hasRecord s at kind n
+  unfolding hasRecord
+  record-kind l e f = rw (l, eq-eqb (field 4 s at) n e, f)
 
 rearranged : (w f o x e : Bool) → (w && ((f && o) && (x && e))) ≡ (f && (x && (w && (o && e))))
 rearranged true true o true e = refl
@@ -175,6 +182,54 @@ module _ (s : List ℕ) where
       on true u h g e = let z : _≡_ {A = ℕ} 0 1 = cc in absurd (omega arith)
       on false true h g e = let z : _≡_ {A = ℕ} 0 1 = cc in absurd (omega arith)
       on false false h g e = (h, g)
+
+-- as the code tests them
+module _ (s : List ℕ) where
+  pub front-model : {n : ℕ} → n ≡ field 4 s 0 - 6 → hasRecord s 0 1 (6 + 2 * (n / 2)) ≡ true → Model (n / 2) ≡ frontOf s
+  unfolding frontOf hasModel
+  front-model e h = let m : hasRecord s 0 1 (6 + 2 * entriesAt s) ≡ true = rw (← e) h in rw (m, e)
+
+  module _ {n content : ℕ} (e : n ≡ field 4 s 0 - 6) (no-model : hasRecord s 0 1 (6 + 2 * (n / 2)) ≡ false) (c : content ≡ contentAt s) where
+    not-model : hasModel s ≡ false
+    unfolding hasModel
+    not-model = rw (← e) no-model
+
+    not-geometry : hasGeometry s ≡ false → Broken ≡ frontOf s
+    unfolding frontOf
+    not-geometry h = rw (not-model, h)
+
+    pub front-second : hasRecord s 0 2 14 ≡ false → Broken ≡ frontOf s
+    unfolding hasGeometry
+    front-second h = not-geometry (rw h)
+
+    pub front-third : hasRecord s 20 3 16 ≡ false → Broken ≡ frontOf s
+    unfolding hasGeometry
+    front-third h = not-geometry (rw h (and-false (hasRecord s 0 2 14)))
+
+    pub front-fourth : hasRecord s 42 4 (7 + content) ≡ false → Broken ≡ frontOf s
+    unfolding hasGeometry
+    front-fourth h =
+        let k : hasRecord s 42 4 (7 + contentAt s) ≡ false = rw (← c) h in
+        not-geometry (rw (k, and-false (hasRecord s 20 3 16)) (and-false (hasRecord s 0 2 14)))
+
+    module _ {m : ℕ} (f : m ≡ field 4 s (55 + content) - 4) where
+      held-is : m / 4 ≡ heldAt s
+      unfolding heldAt
+      held-is = rw (← c, f)
+
+      pub front-fifth : hasRecord s (55 + content) 5 (4 + 4 * (m / 4)) ≡ false → Broken ≡ frontOf s
+      unfolding hasGeometry
+      front-fifth h =
+          let k : hasRecord s (55 + contentAt s) 5 (4 + 4 * heldAt s) ≡ false = rw (← c, ← held-is) h in
+          not-geometry (rw (k, and-false (hasRecord s 42 4 (7 + contentAt s)), and-false (hasRecord s 20 3 16)) (and-false (hasRecord s 0 2 14)))
+
+      pub front-geometry : hasRecord s 0 2 14 ≡ true → hasRecord s 20 3 16 ≡ true → hasRecord s 42 4 (7 + content) ≡ true → hasRecord s (55 + content) 5 (4 + 4 * (m / 4)) ≡ true
+          → Geometry content (m / 4) ≡ frontOf s
+      unfolding hasGeometry frontOf
+      front-geometry p q r t =
+          let r′ : hasRecord s 42 4 (7 + contentAt s) ≡ true = rw (← c) r in
+          let t′ : hasRecord s (55 + contentAt s) 5 (4 + 4 * heldAt s) ≡ true = rw (← c, ← held-is) t in
+          rw (not-model, p, q, r′, t′, c, held-is)
 
 -- ---- they are exact in length
 

@@ -26,3 +26,4 @@ pub mod EveryLaws
 pub mod ParsingLaws
 pub mod SoundLaws
 pub mod StateLaws
+pub mod ExaminedLaws

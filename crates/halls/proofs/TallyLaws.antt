@@ -16,10 +16,11 @@ use Rattle.halls.specs.Checks.{vertexBytesExact, sameNumbers, shaderIds,
 use Rattle.halls.specs.Hall.{FullGeometry, FullModel, Hall}
 use Rattle.halls.specs.ImageSize.{padded, geometrySize, modelSize, imageSize}
 use Rattle.halls.specs.Judging.{passed, lowestOf}
-use Rattle.halls.specs.Parsing.{mappingCount, geometriesIn, modelsIn, geometryIn, bodyAt}
+use Rattle.halls.specs.Parsing.{mappingCount, modelIn, geometriesIn, modelsIn, geometryIn, bodyAt}
 use Rattle.halls.specs.Records.{Record}
 use Rattle.halls.specs.Triangles.{heldCount}
 use Rattle.halls.specs.Walk.{leads, rest, isEmpty, failing, lowestFrom, kindCount, units, modelUnits, geometryUnits, unitsFrom, verdictOf, geometryOf}
+use Rattle.halls.proofs.SoundLaws.{same-numbers}
 use Rattle.halls.specs.declared.check.Verdict.{Verdict}
 use Rattle.halls.specs.declared.check.Verdict.the-variants.{Sound, Fails}
 
@@ -111,6 +112,10 @@ all-models (m ∷ ms) =
     ∙ together (mappingMatches m) true true true true true true true
     (every mappingMatches ms) true (every stridesAgree gs && everyGeometry stridesAgree ms) (every componentsInside gs && everyGeometry componentsInside ms) (every vertexCountsAgree gs && everyGeometry vertexCountsAgree ms) (every indexCountsAgree gs && everyGeometry indexCountsAgree ms) (every indicesInRange gs && everyGeometry indicesInRange ms) true)
 
+-- check 12 is the lowest of them
+pub mapping-lowest : (h : Hall) → every mappingMatches h ≡ false → lowestOfModels h ≡ 12
+mapping-lowest h e = all-models h ∙ rw e
+
 -- ---- the verdict
 
 abbrev requireAll : List ℕ → List Bool → Verdict
@@ -186,11 +191,86 @@ regrouped a b c d e = swapped a b c (min d e) ∙ ap (min (min a c)) (joined b d
     joined : (b d e : ℕ) → min b (min d e) ≡ min (min b d) e
     joined b d e = omega arith
 
-pub lowest-from : (left : List ℕ) (rs : List Record)
-    → lowestFrom left rs ≡ min (failing 12 (sameNumbers left (shaderIds (geometriesIn rs)))) (min (lowestOfAll (geometriesIn rs)) (lowestOfModels (modelsIn rs)))
+abbrev lowestParts : List ℕ → List FullGeometry → Hall → ℕ
+lowestParts left gs ms = min (failing 12 (sameNumbers left (shaderIds gs))) (min (lowestOfAll gs) (lowestOfModels ms))
+
+pub lowest-from : (left : List ℕ) (rs : List Record) → lowestFrom left rs ≡ lowestParts left (geometriesIn rs) (modelsIn rs)
 unfolding lowestFrom geometriesIn modelsIn lowestOfAll lowestOfModels mappingMatches
 lowest-from left [] = rw (same-none left) (omega (arith, failing-bound (isEmpty left)))
-lowest-from left (r ∷ rs) = on (eqb (r .kind) 1) (eqb (r .kind) 2) refl refl
+lowest-from left (r ∷ rs) = on (eqb (r .kind) 1) (eqb (r .kind) 2) refl refl (λ l. lowest-from l rs)
   where
-    on : (t u : Bool) → eqb (r .kind) 1 ≡ t → eqb (r .kind) 2 ≡ u → ?
-    on t u h k = ?
+    mapping : List ℕ
+    mapping = numbers 2 (mappingCount (r .body)) (drop 6 (r .body))
+
+    on : (t u : Bool) → eqb (r .kind) 1 ≡ t → eqb (r .kind) 2 ≡ u → ((l : List ℕ) → lowestFrom l rs ≡ lowestParts l (geometriesIn rs) (modelsIn rs))
+        → lowestFrom left (r ∷ rs) ≡ lowestParts left (geometriesIn (r ∷ rs)) (modelsIn (r ∷ rs))
+    on true u h k ih = rw (h, same-none left, ih mapping) (omega (arith, failing-bound (sameNumbers mapping (shaderIds (geometriesIn rs)))))
+    on false true h k ih = rw (h, k, ih (rest left), same-next left (geometryOf r rs .shader) (shaderIds (geometriesIn rs)))
+        (regrouped (failing 12 (leads (geometryOf r rs .shader) left)) (lowestOf (geometryOf r rs)) (failing 12 (sameNumbers (rest left) (shaderIds (geometriesIn rs)))) (lowestOfAll (geometriesIn rs)) (lowestOfModels (modelsIn rs)))
+    on false false h k ih = rw (h, k) (ih left)
+
+-- ---- counts
+
+pub count-models : (rs : List Record) → kindCount 1 rs ≡ length (modelsIn rs)
+unfolding kindCount modelsIn
+count-models [] = refl
+count-models (r ∷ rs) = on (eqb (r .kind) 1) refl (count-models rs)
+  where
+    on : (t : Bool) → eqb (r .kind) 1 ≡ t → kindCount 1 rs ≡ length (modelsIn rs) → kindCount 1 (r ∷ rs) ≡ length (modelsIn (r ∷ rs))
+    on true h ih = rw h (omega arith)
+    on false h ih = rw h (omega arith)
+
+-- a record of one kind is of no other
+other-kind : (k m n : ℕ) → (m ≡ n → ⊥) → eqb k m ≡ true → eqb k n ≡ false
+other-kind k m n f e = ne-eqb k n (λ h. f (sym (eqb-true k m e) ∙ h))
+
+pub count-geometries : (rs : List Record) → kindCount 2 rs ≡ length (geometriesIn rs) + geometryCount (modelsIn rs)
+unfolding kindCount geometriesIn modelsIn geometryCount sumOf
+count-geometries [] = refl
+count-geometries (r ∷ rs) = on (eqb (r .kind) 1) (eqb (r .kind) 2) refl refl (count-geometries rs)
+  where
+    on : (t u : Bool) → eqb (r .kind) 1 ≡ t → eqb (r .kind) 2 ≡ u → kindCount 2 rs ≡ length (geometriesIn rs) + geometryCount (modelsIn rs)
+        → kindCount 2 (r ∷ rs) ≡ length (geometriesIn (r ∷ rs)) + geometryCount (modelsIn (r ∷ rs))
+    on true u h k ih = rw (h, other-kind (r .kind) 1 2 (λ e. omega arith) h) (omega arith)
+    on false true h k ih = rw (h, k) (omega arith)
+    on false false h k ih = rw (h, k) (omega arith)
+
+-- ---- the image
+
+-- a model's size where its mapping tells how many geometries it has
+abbrev pub sizeByMapping : FullModel → ℕ
+sizeByMapping m = padded 0x30 + padded (8 * length (m .mapping)) + padded (2 * length (m .mapping)) + sumOf geometrySize (m .geometries)
+
+geometry-units : (b₂ b₃ b₄ b₅ : List ℕ) → geometrySize (geometryIn b₂ b₃ b₄ b₅) ≡ 16 * geometryUnits (length b₄ - 7) ((length b₅ - 4) / 4)
+unfolding geometrySize
+geometry-units b₂ b₃ b₄ b₅ = rw (length-drop 7 b₄, numbers-length 4 (heldCount b₅) (drop 4 b₅)) (omega arith)
+
+model-units : (b : List ℕ) (gs : List FullGeometry) → sizeByMapping (modelIn b gs) ≡ 16 * modelUnits (mappingCount b) + sumOf geometrySize gs
+model-units b gs = rw (numbers-length 2 (mappingCount b) (drop 6 b)) (omega arith)
+
+pub image-units : (rs : List Record) → 16 * unitsFrom rs ≡ sumOf geometrySize (geometriesIn rs) + sumOf sizeByMapping (modelsIn rs)
+unfolding unitsFrom geometriesIn modelsIn sumOf
+image-units [] = refl
+image-units (r ∷ rs) = on (eqb (r .kind) 1) (eqb (r .kind) 2) refl refl (image-units rs)
+  where
+    on : (t u : Bool) → eqb (r .kind) 1 ≡ t → eqb (r .kind) 2 ≡ u → 16 * unitsFrom rs ≡ sumOf geometrySize (geometriesIn rs) + sumOf sizeByMapping (modelsIn rs)
+        → 16 * unitsFrom (r ∷ rs) ≡ sumOf geometrySize (geometriesIn (r ∷ rs)) + sumOf sizeByMapping (modelsIn (r ∷ rs))
+    on true u h k ih = rw h (omega (arith, model-units (r .body) (geometriesIn rs)))
+    on false true h k ih = rw (h, k) (omega (arith, geometry-units (r .body) (bodyAt 0 rs) (bodyAt 1 rs) (bodyAt 2 rs)))
+    on false false h k ih = rw (h, k) ih
+
+-- the same where mappings are the shader ids
+same-length : (xs ys : List ℕ) → sameNumbers xs ys ≡ true → length xs ≡ length ys
+same-length xs ys e = ap length (same-numbers xs ys e)
+
+length-shaders : (gs : List FullGeometry) → length (shaderIds gs) ≡ length gs
+length-shaders [] = refl
+length-shaders (g ∷ gs) = ap suc (length-shaders gs)
+
+pub size-by-mapping : (h : Hall) → every mappingMatches h ≡ true → sumOf sizeByMapping h ≡ sumOf modelSize h
+unfolding every sumOf modelSize mappingMatches
+size-by-mapping [] e = refl
+size-by-mapping (m ∷ ms) e =
+    let b = both-true (mappingMatches m) (every mappingMatches ms) e in
+    let l : length (m .mapping) ≡ length (m .geometries) = same-length (m .mapping) (shaderIds (m .geometries)) (b .0) ∙ length-shaders (m .geometries) in
+    rw (l, size-by-mapping ms (b .1))

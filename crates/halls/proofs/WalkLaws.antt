@@ -30,7 +30,7 @@ use Rattle.halls.proofs.RecordLaws.{field-drop}
 
 -- ---- mappings
 
-is-empty : (n : ℕ) (s : List ℕ) → isEmpty (numbers 2 n s) ≡ eqb n 0
+pub is-empty : (n : ℕ) (s : List ℕ) → isEmpty (numbers 2 n s) ≡ eqb n 0
 unfolding numbers
 is-empty zero s = refl
 is-empty (suc n) s = sym (ne-eqb (suc n) 0 (λ e. omega arith))

@@ -1,36 +1,32 @@
+-- A four-byte number times a two-byte one fits 48 bits.
+use mathlib.Core.Path.{_≡_, refl, sym, ap, _∙_}
+use Prim.Native.Nat.{_*_, _≤_}
+use native.Mathlib.Nat.{mul-le-mul}
+use native.Mathlib.Omega.{arith}
 use borrow.Author.Needs.{needs}
+use Rattle.halls.specs.Judging.{contentAt}
 use Rattle.halls.proofs.front.content_length.Statement.{statement}
 use Rattle.halls.proofs.front.content_length.Tie as tie
-use Rattle.halls.proofs.front.content_length.Reads as reads
-use Rattle.halls.proofs.front.content_length.Lts as lts
-use Rattle.sections.proofs.u16_le.Reads as u16-le-reads
-use Rattle.sections.proofs.u32_le.Reads as u32-le-reads
 
--- src/front.rt:60:5
-u32-le-requires : tie.Need-u32-le-requires
-u32-le-requires c κs = search needs
-
--- src/front.rt:60:5
-cast-result : tie.Need-cast-result
-cast-result c = search needs
-
--- src/front.rt:60:33
-u16-le-requires : tie.Need-u16-le-requires
-u16-le-requires c κs = search needs
-
--- src/front.rt:60:33
-cast-result-2 : tie.Need-cast-result-2
-cast-result-2 c = search needs
-
--- src/front.rt:60:5
-mul-result : tie.Need-mul-result
-mul-result c = ?
-
--- src/front.rt:57:1
 returns : tie.Need-returns
-returns c = ?
+unfolding contentAt
+returns c =
+    let n = c .before .u32-le in
+    let m = c .u16-le in
+    let a : n .result ≤ 4294967296 = omega arith in
+    let b : m .result ≤ 65536 = omega arith in
+    (rw (n .ensures, m .ensures), mul-le-mul a b)
 
 pub content-length-spec : {M : Type 1} → statement M
 content-length-spec =
     tie.close
-    (tie.spec u32-le-requires cast-result u16-le-requires cast-result-2 mul-result returns)
+    (tie.spec
+    (λ c κs. search needs)
+    (λ c. search needs)
+    (λ c κs. search needs)
+    (λ c. search needs)
+    (λ c. 
+    let a : c .before .u32-le .result ≤ 4294967296 = omega arith in
+    let b : c .u16-le .result ≤ 65536 = omega arith in
+    let p = mul-le-mul a b in omega (arith, p))
+    returns)
