@@ -17,3 +17,4 @@ pub mod ReaderParts
 pub mod ListingLaws
 pub mod RecordLaws
 pub mod TriangleLaws
+pub mod ScanLaws
