@@ -18,3 +18,4 @@ pub mod ListingLaws
 pub mod RecordLaws
 pub mod TriangleLaws
 pub mod ScanLaws
+pub mod JudgingLaws
