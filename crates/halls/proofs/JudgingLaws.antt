@@ -1,24 +1,23 @@
 -- One geometry, as the code judges it: its numbers at the front of some bytes, and each check of them.
 use mathlib.Core.Path.{_≡_, refl, sym, ap, _∙_}
 use mathlib.Core.Bool.{Bool, true, false, cond, _&&_}
-use mathlib.Core.List.{List, []}
+use mathlib.Core.List.{List}
 use mathlib.Core.Option.{Option, none, some}
 use Prim.Native.Nat.{ℕ, suc, _+_, _*_, _-_, _/_, _%_, _≤_, _<_}
-use native.Mathlib.Nat.{add-assoc, add-comm, add-zero, mul-le-mul-right, suc-mul}
+use native.Mathlib.Nat.{add-assoc, add-zero, mul-le-mul-right, suc-mul}
 use native.Mathlib.Omega.{arith}
 use borrow.Author.Tests.{le-ltb, lt-ltb}
 use lib.Dec.{eqb, leb, ltb}
-use lib.ListN.{length, drop, getD}
+use lib.ListN.{length, drop}
 use lib.Seq.{drop-drop, ext-getD}
 use Rattle.sections.specs.Edit.{part}
 use Rattle.sections.specs.Le.{field, le}
 use Rattle.sections.proofs.EditLaws.{part-length, part-part}
 use Rattle.sections.proofs.LeLaws.{field-in}
-use Rattle.vertices.specs.Declaration.{componentOf, componentsFrom, componentsOf, declarationAt, foundComponent, sizes, totalSize}
+use Rattle.vertices.specs.Declaration.{componentOf, componentsFrom, declarationAt, foundComponent, sizes, totalSize}
 use Rattle.vertices.specs.Runs.{numbers}
 use Rattle.vertices.specs.Types.{componentType, sizeOf}
 use Rattle.vertices.specs.declared.declaration.FoundComponent.the-variants.{Component, Missing}
-use Rattle.vertices.specs.declared.declaration.VertexDeclaration.{VertexDeclaration}
 use Rattle.vertices.specs.declared.types.VertexComponent.{VertexComponent}
 use Rattle.vertices.proofs.ComponentWalk.{components-clear, components-end, components-set}
 use Rattle.vertices.proofs.RunLaws.{numbers-getD, numbers-length}
@@ -26,7 +25,7 @@ use Rattle.vertices.proofs.TypeLaws.{size-bound}
 use Rattle.halls.specs.Checks.{stridesAgree, componentsInside, vertexCountsAgree, indexCountsAgree, indicesInRange, hasSize}
 use Rattle.halls.specs.Every.{every}
 use Rattle.halls.specs.Hall.{FullGeometry}
-use Rattle.halls.specs.Judging.{GeometryFront, HeadJudged, HeadTested, contentAt, frontGeometry, headLowest, headOf, heldAt, lowestOf, passed}
+use Rattle.halls.specs.Judging.{GeometryFront, HeadJudged, HeadTested, frontGeometry, headOf, lowestOf, passed}
 use Rattle.halls.specs.Triangles.{heldCount}
 use Rattle.halls.specs.declared.judge.GeometryHead.{GeometryHead}
 
@@ -135,7 +134,7 @@ module _ {s : List ℕ} {content held : ℕ} (f : GeometryFront s content held) 
       cc (front-declaration, front-count, front-stored, front-held)
 
   -- check 18 of it is that of the indices from their place on
-  pub front-range : {limit : ℕ} {t : Bool} → limit ≡ g .vertices .count → t ≡ every (λ (i : ℕ). ltb i limit) (numbers 4 held (drop (65 + content) s)) → t ≡ indicesInRange g
+  front-range : {limit : ℕ} {t : Bool} → limit ≡ g .vertices .count → t ≡ every (λ (i : ℕ). ltb i limit) (numbers 4 held (drop (65 + content) s)) → t ≡ indicesInRange g
   unfolding indicesInRange
   front-range {limit} {t} e q = rw (← e, items-are) q
 
@@ -219,10 +218,15 @@ module _ (g : FullGeometry) {h : GeometryHead} {r : ℕ} (e : h ≡ headOf g) (j
       q ∙ chain-stops (stridesAgree g) (componentsInside g) (vertexCountsAgree g) (indexCountsAgree g) (cond (indicesInRange g) 20 18) (λ z. f (q ∙ z))
 
   -- none of them does: check 18 decides
-  pub lowest-range : r ≡ 20 → cond (indicesInRange g) 20 18 ≡ lowestOf g
+  lowest-range : r ≡ 20 → cond (indicesInRange g) 20 18 ≡ lowestOf g
   unfolding lowestOf
   lowest-range z =
       chain-passes (stridesAgree g) (componentsInside g) (vertexCountsAgree g) (indexCountsAgree g) (cond (indicesInRange g) 20 18) (sym (j .lowest g e) ∙ z)
+
+-- so of the geometry at the front: what the scan of its indices answers
+pub lowest-scanned : {s : List ℕ} {content held : ℕ} → GeometryFront s content held → {h : GeometryHead} {r : ℕ} {t : Bool} → h ≡ headOf (frontGeometry s) → HeadJudged h r → r ≡ 20
+    → t ≡ every (λ (i : ℕ). ltb i (h .«vertices_count»)) (numbers 4 held (drop (65 + content) s)) → cond t 20 18 ≡ lowestOf (frontGeometry s)
+lowest-scanned {s} f e j z q = rw (front-range f (ap (λ (h : GeometryHead). h .«vertices_count») e) q) (lowest-range (frontGeometry s) e j z)
 
 -- ---- the position
 

@@ -1,6 +1,5 @@
 -- A position that is missing or without size fails; else the total decides.
 use mathlib.Core.Path.{sym, _∙_}
-use native.Mathlib.Omega.{arith}
 use borrow.Author.Needs.{needs}
 use Rattle.vertices.specs.Declaration.{componentOf}
 use Rattle.halls.proofs.JudgingLaws.{components-tested, position-missing, position-empty, position-sized}

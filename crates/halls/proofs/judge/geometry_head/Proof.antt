@@ -1,5 +1,4 @@
 -- Each number stands at its place in the four records.
-use native.Mathlib.Omega.{arith}
 use borrow.Author.Needs.{needs}
 use Rattle.halls.proofs.JudgingLaws.{front-head}
 use Rattle.halls.proofs.judge.geometry_head.Statement.{statement}

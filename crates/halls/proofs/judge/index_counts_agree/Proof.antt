@@ -1,5 +1,4 @@
 -- The four tests, one after the other.
-use native.Mathlib.Omega.{arith}
 use borrow.Author.Needs.{needs}
 use borrow.Author.Tests.{eq-eqb, ne-eqb}
 use Rattle.halls.proofs.JudgingLaws.{indices-tested}

@@ -1,7 +1,7 @@
 -- The sizes added up and those of the components still to come are the total.
 use mathlib.Core.Logic.{⊎-elim}
-use mathlib.Core.Path.{_∙_, ap}
-use Prim.Native.Nat.{ℕ, _+_, _-_}
+use mathlib.Core.Path.{_∙_}
+use Prim.Native.Nat.{_-_}
 use native.Mathlib.Omega.{arith}
 use borrow.Author.Needs.{needs}
 use Rattle.vertices.specs.Declaration.{componentsOf, totalSize}

@@ -1,5 +1,4 @@
 -- The three tests, one after the other.
-use native.Mathlib.Omega.{arith}
 use borrow.Author.Needs.{needs}
 use borrow.Author.Tests.{eq-eqb, ne-eqb, le-leb, lt-leb}
 use Rattle.halls.proofs.JudgingLaws.{vertices-tested}
