@@ -1,13 +1,11 @@
 -- A scan of indices: which of them are below the limit, block by block and one by one.
-use mathlib.Core.Path.{_≡_, refl, sym, ap, _∙_}
+use mathlib.Core.Path.{_≡_, refl, sym, ap, subst, _∙_}
 use mathlib.Core.Bool.{Bool, true, false, _&&_}
 use mathlib.Core.List.{List, [], _∷_, _++_}
 use Prim.Native.Nat.{ℕ, _+_, _*_, _-_, _≤_, _<_}
-use native.Mathlib.Nat.{lt-of-not-le}
-use native.Mathlib.Decide.{decLe}
 use native.Mathlib.Omega.{arith}
-use borrow.Author.Tests.{le-ltb, lt-ltb}
-use lib.Dec.{ltb}
+use borrow.Author.Tests.{eq-eqb, eqb-true, le-ltb, lt-ltb, ne-eqb}
+use lib.Dec.{T, eqb, ltb}
 use lib.ListN.{drop}
 use lib.Seq.{drop-drop}
 use Rattle.sections.specs.Edit.{part}
@@ -88,51 +86,43 @@ module _ {s : List ℕ} {at count limit i : ℕ} (b : Below s at count limit i) 
       let e : count ≡ i = omega (arith, b .low) in
       ap (firstBelow s at limit) e ∙ b .is
 
--- ---- the greatest of a block
+-- ---- those of a block that are below, counted
 
--- the greater of two is below the limit where both are
-both-below : (limit g v : ℕ) → g ≤ v → (ltb g limit && ltb v limit) ≡ ltb v limit
-both-below limit g v h =
-    elim (decLe limit v) [
-      | yes y ↦ rw (le-ltb v limit y) (and-false (ltb g limit))
-      | no y ↦ let l = lt-of-not-le y in rw (lt-ltb g limit (omega arith))
-    ]
+-- one more on both sides
+both-more : (a b : ℕ) → eqb (a + 1) (b + 1) ≡ eqb a b
+both-more a b = on (eqb a b) refl
+  where
+    on : (t : Bool) → eqb a b ≡ t → eqb (a + 1) (b + 1) ≡ t
+    on true e = eq-eqb (a + 1) (b + 1) (omega (arith, eqb-true a b e))
+    on false e = ne-eqb (a + 1) (b + 1) (λ z. absurd (subst T (sym (eq-eqb a b (omega arith)) ∙ e) tt))
 
-both-kept : (limit g v : ℕ) → v ≤ g → (ltb g limit && ltb v limit) ≡ ltb g limit
-both-kept limit g v h =
-    elim (decLe limit g) [
-      | yes y ↦ rw (le-ltb g limit y)
-      | no y ↦ let l = lt-of-not-le y in rw (lt-ltb g limit l, lt-ltb v limit (omega arith))
-    ]
+pub record Counted (s : List ℕ) (at limit below i : ℕ) : Type 0 where
+  pub low : i ≤ 64
+  pub few : below ≤ i
+  pub is : eqb below i ≡ firstBelow s at limit i
 
--- of 0 and the first i
-pub record Greatest (s : List ℕ) (at limit greatest i : ℕ) : Type 0 where
-  pub low : i ≤ 256
-  pub is : (ltb 0 limit && firstBelow s at limit i) ≡ ltb greatest limit
+pub counted-start : (s : List ℕ) (at limit : ℕ) → Counted s at limit 0 0
+counted-start s at limit = record { low = omega arith; few = omega arith; is = sym (first-none s at limit) }
 
-pub greatest-start : (s : List ℕ) (at limit : ℕ) → Greatest s at limit 0 0
-greatest-start s at limit = record { low = omega arith; is = rw (first-none s at limit) (and-true (ltb 0 limit)) }
+module _ {s : List ℕ} {at limit below i : ℕ} (c : Counted s at limit below i) (v : ℕ) (low : i < 64) (e : v ≡ le (part s (at + i * 4) 4)) where
+  next : firstBelow s at limit (i + 1) ≡ (eqb below i && ltb v limit)
+  next = first-add s at limit i 1 ∙ rw (c .is, first-one s (at + i * 4) limit v e)
 
-module _ {s : List ℕ} {at limit greatest i : ℕ} (g : Greatest s at limit greatest i) (v : ℕ) (low : i < 256) (e : v ≡ le (part s (at + i * 4) 4)) where
-  next : (ltb 0 limit && firstBelow s at limit (i + 1)) ≡ (ltb greatest limit && ltb v limit)
-  next =
-      ap (λ (b : Bool). ltb 0 limit && b) (first-add s at limit i 1) ∙ and-assoc (ltb 0 limit) (firstBelow s at limit i) (firstBelow s (at + i * 4) limit 1)
-      ∙ rw (g .is, first-one s (at + i * 4) limit v e)
+  pub counted-more : {more : ℕ} → v < limit → more ≡ below + 1 → Counted s at limit more (i + 1)
+  counted-more {more} h q = record {
+    low = omega arith;
+    few = omega (arith, c .few);
+    is = rw (q, both-more below i) (sym (next ∙ rw (lt-ltb v limit h) (and-true (eqb below i))));
+  }
 
-  pub greatest-next : greatest < v → Greatest s at limit v (i + 1)
-  greatest-next h = record { low = omega arith; is = next ∙ both-below limit greatest v (omega arith) }
+  pub counted-same : {same : ℕ} → limit ≤ v → same ≡ below → Counted s at limit same (i + 1)
+  counted-same {same} h q = record {
+    low = omega arith;
+    few = omega (arith, c .few);
+    is = ne-eqb same (i + 1) (λ z. omega (arith, c .few)) ∙ sym (next ∙ rw (le-ltb v limit h) (and-false (eqb below i)));
+  }
 
-  pub greatest-kept : v ≤ greatest → Greatest s at limit greatest (i + 1)
-  greatest-kept h = record { low = omega arith; is = next ∙ both-kept limit greatest v h }
-
--- where an index is below the limit, 0 is
-first-counts : (s : List ℕ) (at limit n : ℕ) → (ltb 0 limit && firstBelow s at limit (1 + n)) ≡ firstBelow s at limit (1 + n)
-first-counts s at limit n =
-    let v : ℕ = le (part s at 4) in
-    let e : firstBelow s at limit (1 + n) ≡ (ltb v limit && firstBelow s (at + 1 * 4) limit n) = first-add s at limit 1 n ∙ rw (first-one s at limit v refl) in
-    rw e (and-assoc (ltb 0 limit) (ltb v limit) (firstBelow s (at + 1 * 4) limit n) ∙ rw (both-below limit 0 v (omega arith)))
-
-pub greatest-end : {s : List ℕ} {at limit greatest i : ℕ} → Greatest s at limit greatest i → 256 ≤ i → ltb greatest limit ≡ firstBelow s at limit 256
-greatest-end {s} {at} {limit} {greatest} {i} g h =
-    let e : i ≡ 256 = omega (arith, g .low) in
-    sym (g .is) ∙ ap (λ n. ltb 0 limit && firstBelow s at limit n) e ∙ first-counts s at limit 255
+pub counted-end : {s : List ℕ} {at limit below i : ℕ} → Counted s at limit below i → 64 ≤ i → eqb below 64 ≡ firstBelow s at limit 64
+counted-end {s} {at} {limit} {below} {i} c h =
+    let e : i ≡ 64 = omega (arith, c .low) in
+    rw e at (c .is)

@@ -1,5 +1,5 @@
-// Whether all indices of a list are below a limit. A block of them is reduced to its greatest by a loop that tests no range and is
-// left only at its end: so the compiler reads several at once.
+// Whether all indices of a list are below a limit. The loop over a block tests no range, is left only at its end and counts
+// instead of stopping: so the compiler compares several indices at once.
 ghost use mathlib.Core.Path.{_≡_};
 ghost use Prim.Native.Nat.{ℕ, _+_, _*_, _≤_, _<_};
 ghost use lib.Dec.{ltb};
@@ -14,30 +14,29 @@ pub fn indices_below(list: &[u8], at: usize, count: usize, limit: u32) -> bool
     ensures { λ r. ⌜ r ≡ every (λ (i : ℕ). ltb i limit) (numbers 4 count (drop at (now (list .entry)))) ⌝ }
 {
     let mut i = 0;
-    while 256 <= count - i {
+    while 64 <= count - i {
         if !block_below(list, at + i * 4, limit) {
             return false;
         }
-        i += 256;
+        i += 64;
     }
     each_below(list, at + i * 4, count - i, limit)
 }
 
-// The same for 256 indices.
+// The same for 64 indices: all of them are counted.
 fn block_below(list: &[u8], at: usize, limit: u32) -> bool
-    requires { ⌜ at + 1024 ≤ length (now list) ⌝ }
-    ensures { λ r. ⌜ r ≡ every (λ (i : ℕ). ltb i limit) (numbers 4 256 (drop at (now (list .entry)))) ⌝ }
+    requires { ⌜ at + 256 ≤ length (now list) ⌝ }
+    ensures { λ r. ⌜ r ≡ every (λ (i : ℕ). ltb i limit) (numbers 4 64 (drop at (now (list .entry)))) ⌝ }
 {
-    let mut greatest: u32 = 0;
+    let mut below: u32 = 0;
     let mut i: usize = 0;
-    while i < 256 {
-        let index = u32_at(list, at + i * 4);
-        if greatest < index {
-            greatest = index;
+    while i < 64 {
+        if u32_at(list, at + i * 4) < limit {
+            below += 1;
         }
         i += 1;
     }
-    greatest < limit
+    below == 64
 }
 
 // The same one by one.

@@ -15,10 +15,10 @@ abbrev μ-loop : tie.MeasureT-loop
 μ-loop list at count limit i₀ i = count - i
 
 fails : tie.Need-returns Inv-loop μ-loop
-fails c = sym (below-fails (c .before .before .before .loop .inv) 256 (omega arith) (sym (c .before .block-below .ensures) ∙ not-true _ (c .if1 .taken)))
+fails c = sym (below-fails (c .before .before .before .loop .inv) 64 (omega arith) (sym (c .before .block-below .ensures) ∙ not-true _ (c .if1 .taken)))
 
 again : tie.Need-loop-again Inv-loop μ-loop
-again c = below-more (c .before .before .before .loop .inv) 256 (omega arith) (sym (c .before .block-below .ensures) ∙ not-false _ (c .if1 .left))
+again c = below-more (c .before .before .before .loop .inv) 64 (omega arith) (sym (c .before .block-below .ensures) ∙ not-false _ (c .if1 .left))
 
 pub indices-below-spec : {M : Type 1} → statement M
 indices-below-spec =
