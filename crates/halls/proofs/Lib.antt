@@ -27,3 +27,5 @@ pub mod ParsingLaws
 pub mod SoundLaws
 pub mod StateLaws
 pub mod ExaminedLaws
+pub mod ScanLaws
+pub mod JudgingLaws

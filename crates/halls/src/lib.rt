@@ -9,6 +9,7 @@ mod model;
 mod pointers;
 mod reader;
 mod records;
+mod scan;
 mod triangles;
 mod view;
 mod walk;
