@@ -17,3 +17,5 @@ pub mod ReaderParts
 pub mod ListingLaws
 pub mod RecordLaws
 pub mod TriangleLaws
+pub mod SeekLaws
+pub mod PlaceLaws

@@ -15,3 +15,5 @@ pub mod ImageSize
 pub mod Checks
 pub mod State
 pub mod Judging
+pub mod Places
+pub mod Seeking

@@ -1,6 +1,7 @@
 // Halls: the list of a drawable's models and geometries.
 mod answer;
 mod check;
+mod find;
 mod judge;
 mod list;
 mod measure;
