@@ -235,6 +235,9 @@ module _ {s : List ℕ} {h : Hall} {m at : ℕ} (w : ModelHere s h m at) (g : �
   abbrev start : ℕ
   start = at + (12 + 2 * length (w .it .mapping))
 
+  abbrev pub GeometryOf : ℕ → Type 0
+  GeometryOf place = GeometryHere s start (w .it .geometries) g place
+
   -- the record behind the model's
   pub behind-model : {n : ℕ} → n ≡ field 4 s at → at + 6 + n ≡ start
   behind-model {n} e = omega (arith, w .length-is)
@@ -247,10 +250,10 @@ module _ {s : List ℕ} {h : Hall} {m at : ℕ} (w : ModelHere s h m at) (g : �
     unfolding geometryPlace
     geometry-absent z = rw (w .is, no-geometry s start (w .it .geometries) (w .others) (w .behind) g from-start z)
 
-    pub geometry-stands : (place ≡ length s → ⊥) → GeometryHere s start (w .it .geometries) g place
+    pub geometry-stands : (place ≡ length s → ⊥) → GeometryOf place
     geometry-stands z = geometry-here s start (w .it .geometries) (w .others) (w .behind) g from-start z
 
-  pub geometry-found : {place n : ℕ} → GeometryHere s start (w .it .geometries) g place → n ≡ field 4 s (place + 42)
+  pub geometry-found : {place n : ℕ} → GeometryOf place → n ≡ field 4 s (place + 42)
       → GeometryAt (record { model = at; geometry = place; declaration = place + 20; vertices = place + 42; indices = place + 42 + 6 + n }) ≡ foundGeometry (geometryPlace h m g)
   unfolding geometryPlace
   geometry-found {place} {n} x e =
