@@ -1,6 +1,6 @@
 // Where the records of a hall's list begin.
 ghost use mathlib.Core.Path.{_≡_};
-ghost use Prim.Native.Nat.{_≤_};
+ghost use Prim.Native.Nat.{_^_, _≤_, _<_};
 ghost use lib.ListN.{length};
 ghost use Rattle.halls.specs.HallRecords.{hallRecords};
 ghost use Rattle.halls.specs.Parsing.{modelsIn};
@@ -72,6 +72,16 @@ fn seek(list: &[u8], at: usize, kind: u16, skip: u64) -> usize
     requires { ⌜ at ≤ length (now list) ⌝ }
     ensures { λ r. ⌜ r ≡ sought (now (list .entry)) at kind skip ⌝ }
 {
+    seek_on(&list, at, kind, skip)
+}
+
+// One record is skipped, and the rest searched. Behind two references the list is one address, which a call can hand on
+// without stack of its own: the compiled code is a loop.
+fn seek_on(bytes: &&[u8], at: usize, kind: u16, skip: u64) -> usize
+    requires { ⌜ (at ≤ length (now (now bytes))) × (length (now (now bytes)) < 2 ^ 64) ⌝ }
+    ensures { λ r. ⌜ r ≡ sought (now (now (bytes .entry))) at kind skip ⌝ }
+{
+    let list = *bytes;
     if list.len() - at < 6 {
         return list.len();
     }
@@ -85,10 +95,10 @@ fn seek(list: &[u8], at: usize, kind: u16, skip: u64) -> usize
         if skip == 0 {
             return at;
         }
-        return seek(list, start + length, kind, skip - 1);
+        return seek_on(bytes, start + length, kind, skip - 1);
     }
     if found == 1 {
         return list.len();
     }
-    seek(list, start + length, kind, skip)
+    seek_on(bytes, start + length, kind, skip)
 }

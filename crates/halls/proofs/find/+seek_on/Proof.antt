@@ -9,23 +9,23 @@ use lib.ListN.{length}
 use Rattle.sections.proofs.u16_le.Reads as u16-le-reads
 use Rattle.sections.proofs.u32_le.Reads as u32-le-reads
 use Rattle.halls.proofs.SeekLaws.{sought-end, sought-broken, sought-here, sought-next, sought-ended, sought-past}
-use Rattle.halls.proofs.find.seek.Reads as seek
-use Rattle.halls.proofs.find.seek.Kinds as seek-kinds
-use Rattle.halls.proofs.find.+seek.Lts-seek as seek-lts
-use Rattle.halls.proofs.find.+seek.{statement}
-use Rattle.halls.proofs.find.+seek.Tie.{close}
+use Rattle.halls.proofs.find.seek_on.Reads as seek
+use Rattle.halls.proofs.find.seek_on.Kinds as seek-kinds
+use Rattle.halls.proofs.find.+seek_on.Lts-seek_on as seek-lts
+use Rattle.halls.proofs.find.+seek_on.{statement}
+use Rattle.halls.proofs.find.+seek_on.Tie.{close}
 
-abbrev μ-seek : Measures 1 seek-kinds.ps ℕ
-μ-seek κs a = length (a .0 .now) - a .1 .0
+abbrev μ-seek : Measures 2 seek-kinds.ps ℕ
+μ-seek κs a = length (a .0 .now .now) - a .1 .0
 
-abbrev seek-at : ℕ → In 1 seek-kinds.ps
-seek-at t = and 1 seek-kinds.ps (is 1 seek-kinds.ps μ-seek t) seek.Pre
+abbrev seek-at : ℕ → In 2 seek-kinds.ps
+seek-at t = and 2 seek-kinds.ps (is 2 seek-kinds.ps μ-seek t) seek.Pre
 
-abbrev seek-below : ℕ → In 1 seek-kinds.ps
-seek-below t = and 1 seek-kinds.ps (falls 1 seek-kinds.ps _<_ μ-seek t) seek.Pre
+abbrev seek-below : ℕ → In 2 seek-kinds.ps
+seek-below t = and 2 seek-kinds.ps (falls 2 seek-kinds.ps _<_ μ-seek t) seek.Pre
 
-pub +seek-spec : {M : Type 1} → statement M
-+seek-spec = close μ-seek λ t. seek-lts.spec (
+pub +seek-on-spec : {M : Type 1} → statement M
++seek-on-spec = close μ-seek λ t. seek-lts.spec (
   u32-le-reads.Asked,
   u32-le-reads.Learnt,
   u16-le-reads.Asked,
@@ -48,8 +48,8 @@ pub +seek-spec : {M : Type 1} → statement M
     (λ c. omega arith)
     (λ c. omega arith)
     (λ c κs. (omega arith, omega arith))
-    (λ c. let a = c .before .before .before in c .seek .ensures ∙ sought-next _ _ _ _ (a .before .before .u32-le .ensures) (omega arith) (a .u16-le .ensures) (c .before .before .if3 .taken) (c .before .if4 .left))
+    (λ c. let a = c .before .before .before in c .seek-on .ensures ∙ sought-next _ _ _ _ (a .before .before .u32-le .ensures) (omega arith) (a .u16-le .ensures) (c .before .before .if3 .taken) (c .before .if4 .left))
     (λ c. sought-ended _ _ _ _ (c .before .before .before .before .u32-le .ensures) (omega arith) (c .before .before .u16-le .ensures) (c .before .if3 .left) (c .if5 .taken))
     (λ c. omega arith)
     (λ c κs. (omega arith, omega arith))
-    (λ c. let a = c .before .before .before in c .seek2 .ensures ∙ sought-past _ _ _ _ (a .before .before .u32-le .ensures) (omega arith) (a .u16-le .ensures) (c .before .before .if3 .left) (c .before .if5 .left))
+    (λ c. let a = c .before .before .before in c .seek-on2 .ensures ∙ sought-past _ _ _ _ (a .before .before .u32-le .ensures) (omega arith) (a .u16-le .ensures) (c .before .before .if3 .left) (c .before .if5 .left))
