@@ -14,7 +14,7 @@ use Rattle.sections.proofs.EditLaws.{part-length}
 use Rattle.halls.specs.Parsing.{recordsLength}
 use Rattle.halls.specs.Records.{Record, bodyLength, frontRecord, records}
 use Rattle.halls.specs.Seeking.{placeOf, sought}
-use Rattle.halls.proofs.RecordLaws.{field-drop, records-stop, records-step}
+use Rattle.halls.proofs.RecordLaws.{field-drop, length-at, records-stop, records-step}
 
 -- ---- one record of a list
 
@@ -41,10 +41,6 @@ module _ (s : List ℕ) (at kind skip : ℕ) where
   abbrev left : List ℕ
   left = drop at s
 
-  body-length : {n : ℕ} → at + 6 ≤ length s → n ≡ field 4 s at → bodyLength left ≡ n
-  unfolding bodyLength
-  body-length h e = field-drop 4 s at 0 (omega arith) ∙ rw add-zero (sym e)
-
   stopped : length left < 6 + bodyLength left → length s ≡ sought s at kind skip
   unfolding sought placeOf
   stopped h = rw (records-stop left h)
@@ -55,7 +51,7 @@ module _ (s : List ℕ) (at kind skip : ℕ) where
 
   pub sought-broken : {n : ℕ} → at + 6 ≤ length s → n ≡ field 4 s at → length s < at + 6 + n → length s ≡ sought s at kind skip
   sought-broken h e l =
-      let b = body-length h e in
+      let b = length-at s at h e in
       stopped (rw length-drop (omega arith))
 
   module _ {n found : ℕ} (e : n ≡ field 4 s at) (h : at + 6 + n ≤ length s) (f : found ≡ field 2 s (at + 4)) where
@@ -63,7 +59,7 @@ module _ (s : List ℕ) (at kind skip : ℕ) where
     r = frontRecord left
 
     length-is : bodyLength left ≡ n
-    length-is = body-length (omega arith) e
+    length-is = length-at s at (omega arith) e
 
     fit : 6 + bodyLength left ≤ length left
     fit = rw length-drop (omega (arith, length-is))
@@ -111,7 +107,7 @@ pub record Front (s : List ℕ) (at : ℕ) (r : Record) (rs : List Record) : Typ
   pub behind : Stand s (at + 6 + length (r .body)) rs
 
 pub stand-front : (s : List ℕ) (at : ℕ) (r : Record) (rs : List Record) → Stand s at (r ∷ rs) → Front s at r rs
-unfolding frontRecord bodyLength
+unfolding frontRecord
 stand-front s at r rs w =
     let left : List ℕ = drop at s in
     let l : length left ≡ length s - at = length-drop at s in
@@ -121,7 +117,7 @@ stand-front s at r rs w =
           let first : frontRecord left ≡ r = cc in
           let others : records (drop (6 + bodyLength left) left) ≡ rs = cc in
           let long : length (r .body) ≡ bodyLength left = ap (λ (x : Record). length (x .body)) (sym first) ∙ part-length left 6 (bodyLength left) y in
-          let read : bodyLength left ≡ field 4 s at = field-drop 4 s at 0 (omega (arith, l, y, w .low)) ∙ rw add-zero refl in
+          let read : bodyLength left ≡ field 4 s at = length-at s at (omega (arith, l, y, w .low)) refl in
           let place : at + 6 + length (r .body) ≡ at + (6 + bodyLength left) = omega (arith, long) in
           record {
             length-is = sym read ∙ sym long;
