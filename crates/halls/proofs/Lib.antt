@@ -29,3 +29,5 @@ pub mod StateLaws
 pub mod ExaminedLaws
 pub mod ScanLaws
 pub mod JudgingLaws
+pub mod SeekLaws
+pub mod PlaceLaws

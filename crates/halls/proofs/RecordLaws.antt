@@ -2,7 +2,7 @@
 use mathlib.Core.Path.{_≡_, refl, sym, ap, _∙_}
 use mathlib.Core.List.{List, [], _∷_, _++_, append-assoc}
 use Prim.Native.Nat.{ℕ, zero, suc, _+_, _-_, _^_, _≤_, _<_}
-use native.Mathlib.Nat.{lt-of-not-le}
+use native.Mathlib.Nat.{add-zero, lt-of-not-le}
 use native.Mathlib.Decide.{decLe}
 use native.Mathlib.Omega.{arith}
 use borrow.Author.Tests.{le-leb, lt-leb}
@@ -21,6 +21,11 @@ use Rattle.halls.proofs.ViewLaws.{record-length}
 pub field-drop : (k : ℕ) (s : List ℕ) (at i : ℕ) → at + i + k ≤ length s → field k (drop at s) i ≡ field k s (at + i)
 unfolding part
 field-drop k s at i h = field-in k (drop at s) i (simp length-drop (omega arith)) ∙ rw (drop-drop i at s) (sym (field-in k s (at + i) h))
+
+-- the length of the body of the record that begins at `at`
+pub length-at : (s : List ℕ) (at : ℕ) {n : ℕ} → at + 6 ≤ length s → n ≡ field 4 s at → bodyLength (drop at s) ≡ n
+unfolding bodyLength
+length-at s at h e = field-drop 4 s at 0 (omega arith) ∙ rw add-zero (sym e)
 
 -- a number that was written behind other bytes
 pub field-behind : (before after : List ℕ) (k v at : ℕ) → length before ≡ at → v < 256 ^ k → field k (before ++ (bytes k v ++ after)) at ≡ v

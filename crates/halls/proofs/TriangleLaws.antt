@@ -4,7 +4,6 @@ use mathlib.Core.Bool.{Bool, true, false, cond}
 use mathlib.Core.List.{List, [], _∷_, _++_, append-assoc}
 use mathlib.Core.Option.{Option, none, some}
 use Prim.Native.Nat.{ℕ, zero, suc, _+_, _*_, _-_, _/_, _^_, _≤_, _<_, min}
-use native.Mathlib.Nat.{add-zero}
 use native.Mathlib.Omega.{arith}
 use borrow.Author.Tests.{ne-eqb}
 use lib.Dec.{eqb}
@@ -20,7 +19,7 @@ use Rattle.vertices.proofs.RunLaws.{length-run}
 use Rattle.halls.specs.List.{Vertices, Indices, Geometry, Model, each, recordBytes, optional, modelRecord, geometryRecord, declarationRecord, verticesRecord, indicesRecord, writeGeometry, writeGeometries, writeModel, write}
 use Rattle.halls.specs.Records.{Record, bodyLength, frontRecord, records}
 use Rattle.halls.specs.Triangles.{heldBy, trianglesOf, trianglesOfAll, triangles, storedCount, heldCount, added, awaits, trianglesFrom, trianglesIn, Short, FittingGeometry, FittingGeometries, Fitting}
-use Rattle.halls.proofs.RecordLaws.{field-drop, field-behind, records-stop, records-step, records-written}
+use Rattle.halls.proofs.RecordLaws.{field-drop, length-at, field-behind, records-stop, records-step, records-written}
 use Rattle.halls.proofs.ViewLaws.{record-length, declaration-record-length}
 
 -- ---- a record, by its kind
@@ -79,10 +78,6 @@ module _ {s : List ℕ} {at : ℕ} {awaited : Bool} {total : ℕ} (w : Counting 
   abbrev left : List ℕ
   left = drop at s
 
-  body-length : {n : ℕ} → at + 6 ≤ length s → n ≡ field 4 s at → bodyLength left ≡ n
-  unfolding bodyLength
-  body-length h e = field-drop 4 s at 0 (omega arith) ∙ rw add-zero (sym e)
-
   counted-all : length left < 6 + bodyLength left → total ≡ min (trianglesIn (records s)) greatest
   unfolding trianglesFrom
   counted-all h =
@@ -96,7 +91,7 @@ module _ {s : List ℕ} {at : ℕ} {awaited : Bool} {total : ℕ} (w : Counting 
 
   pub counting-broken : {n : ℕ} → at + 6 ≤ length s → n ≡ field 4 s at → length s < at + 6 + n → total ≡ min (trianglesIn (records s)) greatest
   counting-broken h e l =
-      let b = body-length h e in
+      let b = length-at s at h e in
       counted-all (rw length-drop (omega arith))
 
   -- one record more
@@ -106,7 +101,7 @@ module _ {s : List ℕ} {at : ℕ} {awaited : Bool} {total : ℕ} (w : Counting 
       → next ≡ min (total + more) greatest → Counting s (at + 6 + n) behind next
   unfolding frontRecord part trianglesFrom
   counting-turn {n} {kind} {more} {next} {behind} e h k m a t =
-      let b : bodyLength left ≡ n = body-length (omega arith) e in
+      let b : bodyLength left ≡ n = length-at s at (omega arith) e in
       let size : at + 6 + n - (at + 6) ≡ n = omega arith in
       let kind-is : field 2 left 4 ≡ kind = field-drop 2 s at 4 (omega arith) ∙ sym k in
       let body-is : take (bodyLength left) (drop 6 left) ≡ take (at + 6 + n - (at + 6)) (drop (at + 6) s) = rw (b, size, drop-drop 6 at s) in

@@ -16,3 +16,5 @@ pub mod Checks
 pub mod State
 pub mod Judging
 pub mod Walk
+pub mod Places
+pub mod Seeking

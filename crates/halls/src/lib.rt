@@ -2,6 +2,7 @@
 mod answer;
 mod check;
 mod front;
+mod find;
 mod judge;
 mod list;
 mod measure;
