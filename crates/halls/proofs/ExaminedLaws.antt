@@ -115,12 +115,14 @@ module _ (s : List ℕ) (below : (i : ℕ) → getD s i 0 < 256) (t : Tally) (w 
   tally-limits = limits-low (leb (t .models) 256 && leb (t .geometries) 16384) (leb (1 + units (8 * t .models) + t .units) 4194304) .0
 
   pub examined-end : (lowest : ℕ) → lowest ≡ min (min (t .lowest) (failing 12 (eqb (t .left) 0))) (limitsLowest (t .models) (t .geometries) (t .units)) → Examined s (summaryOf lowest t)
-  examined-end lowest e = record {
-    verdict = ap verdictOf (e ∙ rw lowest-is (both-limits (every mappingMatches hall) refl)) ∙ verdict-lowest hall (structured-hall s below is-structured .exact-bytes) ∙ sym verdict-is;
-    counted = λ z.
-        let m = verdict-sound hall (sym verdict-is ∙ z) .mappings in
-        record { models = models-are; geometries = geometries-are; image = units-are m };
-  }
+  examined-end lowest e =
+      let same : lowest ≡ min (lowestOfModels hall) (cond (countsWithinLimits hall) (failing 19 (imageWithinLimit hall)) 13) = e ∙ rw lowest-is (both-limits (every mappingMatches hall) refl) in
+      record {
+        verdict = ap (λ (n : ℕ). verdictOf n) same ∙ verdict-lowest hall (structured-hall s below is-structured .exact-bytes) ∙ sym verdict-is;
+        counted = λ z.
+            let m = verdict-sound hall (sym verdict-is ∙ z) .mappings in
+            record { models = models-are; geometries = geometries-are; image = units-are m };
+      }
     where
       both-limits : (b : Bool) → every mappingMatches hall ≡ b
           → min (min passed (lowestOfModels hall)) (limitsLowest (t .models) (t .geometries) (t .units)) ≡ min (lowestOfModels hall) (cond (countsWithinLimits hall) (failing 19 (imageWithinLimit hall)) 13)

@@ -14,8 +14,7 @@ use lib.Seq.{drop-drop}
 use Rattle.sections.specs.Edit.{part, fits}
 use Rattle.sections.specs.Le.{field}
 use Rattle.sections.proofs.AddressLaws.{both-true}
-use Rattle.sections.proofs.EditLaws.{part-length, part-part}
-use Rattle.sections.proofs.LeLaws.{field-in}
+use Rattle.sections.proofs.EditLaws.{part-length}
 use Rattle.halls.specs.Every.{every}
 use Rattle.halls.specs.HallRecords.{ofKind}
 use Rattle.halls.specs.Judging.{hasRecord, entriesAt, hasModel, contentAt, heldAt, hasGeometry}
@@ -24,12 +23,8 @@ use Rattle.halls.specs.Records.{Record, bodyLength, frontRecord, records
 use Rattle.halls.specs.Walk.{frontOf, wellFrom}
 use Rattle.halls.specs.declared.front.Front.{Front}
 use Rattle.halls.specs.declared.front.Front.the-variants.{Model, Geometry, Broken}
+use Rattle.halls.proofs.JudgingLaws.{field-part}
 use Rattle.halls.proofs.RecordLaws.{field-drop, records-stop, records-step}
-
--- a field of a part
-pub field-part : (k : ℕ) (s : List ℕ) (at n i : ℕ) → at + n ≤ length s → i + k ≤ n → field k (part s at n) i ≡ field k s (at + i)
-field-part k s at n i h l =
-    field-in k (part s at n) i (rw (part-length s at n h) l) ∙ rw (part-part s at n i k l) (sym (field-in k s (at + i) (omega arith)))
 
 same-test : (a b c d : ℕ) → (a ≡ b → c ≡ d) → (c ≡ d → a ≡ b) → eqb a b ≡ eqb c d
 same-test a b c d f g = on (eqb c d) refl
@@ -273,8 +268,8 @@ module _ (s : List ℕ) (content held : ℕ) (g : FourRecords s content held) wh
   unfolding exact dueLength contentAt
   exact-vertices =
       let fit : 48 + (7 + content) ≤ length s = omega (arith, g .third .fits) in
-      let c : field 4 (part s 48 (7 + content)) 3 ≡ field 4 s 51 = field-part 4 s 48 (7 + content) 3 fit (omega arith) in
-      let t : field 2 (part s 48 (7 + content)) 1 ≡ field 2 s 49 = field-part 2 s 48 (7 + content) 1 fit (omega arith) in
+      let c : field 4 (part s 48 (7 + content)) 3 ≡ field 4 s 51 = field-part 4 s 48 (7 + content) 3 (omega arith) fit in
+      let t : field 2 (part s 48 (7 + content)) 1 ≡ field 2 s 49 = field-part 2 s 48 (7 + content) 1 (omega arith) fit in
       eq-eqb _ _ (content-length ∙ ap (λ (n : ℕ). 7 + n) (g .content-is ∙ rw (c, t)))
 
   pub indices-length : length (part s (61 + content) (4 + 4 * held)) ≡ 4 + 4 * held
@@ -338,16 +333,16 @@ record Peeled (before : ℕ) (s : List ℕ) : Type 0 where
 peeled : (before : ℕ) (s : List ℕ) → 0 < length s → wellFrom before s ≡ true → Peeled before s
 unfolding wellFrom whole recordsLength bodyLength
 peeled before s h e = elim (decLe (6 + field 4 s 0) (length s)) [
-    | yes y ↦ (
+  | yes y ↦ (
       let r : RecordAt s 0 (field 2 s 4) (field 4 s 0) = record { fits = omega arith; length-is = refl; kind-is = refl } in
       let a = both-true (follows before (field 2 s 4)) _ (sym (well-step s 0 (field 2 s 4) (field 4 s 0) r before) ∙ e) in
       let b = both-true (exact (ofKind (field 2 s 4) (part s 6 (field 4 s 0)))) _ (a .1) in
       record { followed = a .0; first = r; is-exact = b .0; behind = b .1 })
-    | no y ↦ (
+  | no y ↦ (
       let w = both-true (whole s) _ e in
       let z : recordsLength (records s) ≡ 0 = rw (records-stop s (lt-of-not-le y)) in
       absurd (omega (arith, eqb-true (recordsLength (records s)) (length s) (w .0))))
-  ]
+]
 
 -- a record behind a place, as one at that place
 at-place : (s : List ℕ) (at kind n : ℕ) → RecordAt (drop at s) 0 kind n → RecordAt s at kind n
@@ -417,7 +412,7 @@ module _ (s : List ℕ) where
       let fit : 48 + b .n ≤ length s = omega (arith, b .here .fits) in
       let n₄ : b .n ≡ 7 + field 4 (part s 48 (b .n)) 3 * field 2 (part s 48 (b .n)) 1 = sym (part-length s 48 (b .n) fit) ∙ eqb-true _ _ (b .is-exact) in
       let seven : 7 ≤ b .n = omega arith in
-      let c : b .n ≡ 7 + contentAt s = n₄ ∙ rw (field-part 4 s 48 (b .n) 3 fit seven, field-part 2 s 48 (b .n) 1 fit (omega arith)) in
+      let c : b .n ≡ 7 + contentAt s = n₄ ∙ rw (field-part 4 s 48 (b .n) 3 seven fit, field-part 2 s 48 (b .n) 1 (omega arith) fit) in
       let place : 48 + b .n ≡ 55 + contentAt s = omega arith in
       let d = next 4 5 s (55 + contentAt s) refl (λ k f. eqb-true k 5 f) (subst (λ (n : ℕ). wellFrom 4 (drop n s) ≡ true) place (b .behind)) in
       let body : 55 + contentAt s + 6 ≡ 61 + contentAt s = omega arith in

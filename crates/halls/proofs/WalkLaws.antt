@@ -4,17 +4,16 @@ use mathlib.Core.Bool.{Bool, true, false, cond, _&&_, _||_}
 use mathlib.Core.List.{List, [], _∷_}
 use mathlib.Core.Logic.{_⊎_, inl, inr}
 use Prim.Native.Nat.{ℕ, zero, suc, _+_, _*_, _-_, _/_, _≤_, _<_, min}
-use native.Mathlib.Nat.{suc-mul, mul-le-mul-right}
 use native.Mathlib.Omega.{arith}
 use borrow.Author.Tests.{eq-eqb, ne-eqb, eqb-true}
 use lib.Dec.{eqb}
 use lib.ListN.{length, take, drop, length-drop}
-use lib.Seq.{drop-drop, ext-getD}
+use lib.Seq.{drop-drop, take-all}
 use Rattle.sections.specs.Edit.{part}
-use Rattle.sections.specs.Le.{le, field}
-use Rattle.sections.proofs.EditLaws.{part-length, part-part}
+use Rattle.sections.specs.Le.{field}
+use Rattle.sections.proofs.EditLaws.{part-length}
+use Rattle.sections.proofs.LeLaws.{field-in}
 use Rattle.vertices.specs.Runs.{numbers}
-use Rattle.vertices.proofs.RunLaws.{numbers-length, numbers-getD}
 use Rattle.halls.specs.Every.{every}
 use Rattle.halls.specs.Hall.{FullGeometry}
 use Rattle.halls.specs.HallRecords.{ofKind}
@@ -24,8 +23,10 @@ use Rattle.halls.specs.Records.{Record, records}
 use Rattle.halls.specs.Walk.{frontOf, wellFrom, leads, rest, isEmpty, failing, lowestFrom, kindCount, units, modelUnits, geometryUnits, unitsFrom, leftOf, startTally, beforeOf, Walked, Turned}
 use Rattle.halls.specs.declared.front.Front.the-variants.{Model, Geometry, Broken}
 use Rattle.halls.specs.declared.walk.Tally.{Tally}
+use Rattle.halls.specs.declared.walk.Turn.{Turn}
 use Rattle.halls.specs.declared.walk.Turn.the-variants.{On, Stop}
-use Rattle.halls.proofs.FrontLaws.{field-part, ModelFront, model-front, records-model, well-model, FourRecords, four-records, records-geometry, well-geometry, well-no-model, well-broken, content-length, indices-length, geometry-long}
+use Rattle.halls.proofs.FrontLaws.{ModelFront, model-front, records-model, well-model, FourRecords, four-records, records-geometry, well-geometry, well-no-model, well-broken, content-length, indices-length, geometry-long}
+use Rattle.halls.proofs.JudgingLaws.{field-part, numbers-part}
 use Rattle.halls.proofs.RecordLaws.{field-drop}
 
 -- ---- mappings
@@ -39,20 +40,6 @@ rest-of : (n : ℕ) (s : List ℕ) (at : ℕ) → rest (numbers 2 n (drop at s))
 unfolding numbers
 rest-of zero s at = refl
 rest-of (suc n) s at = let e : suc n - 1 ≡ n = omega arith in rw (e, drop-drop 2 at s)
-
--- numbers behind the i-th byte of a part
-pub numbers-part : (k n : ℕ) (s : List ℕ) (at m i : ℕ) → i + n * k ≤ m → numbers k n (drop i (part s at m)) ≡ numbers k n (drop (at + i) s)
-unfolding part
-numbers-part k n s at m i h =
-    ext-getD 0 (numbers k n (drop i (part s at m))) (numbers k n (drop (at + i) s)) (numbers-length k n (drop i (part s at m)) ∙ sym (numbers-length k n (drop (at + i) s)))
-    (λ j l.
-    let few : j < n = omega (arith, numbers-length k n (drop i (part s at m))) in
-    let less : j * k + k ≤ n * k = rw (← suc-mul j k) (mul-le-mul-right k few) in
-    let fit : i + j * k + k ≤ m = omega arith in
-    let place : at + (i + j * k) ≡ at + i + j * k = omega arith in
-    numbers-getD k n j (drop i (part s at m)) few
-    ∙ ap le (rw (drop-drop (j * k) i (part s at m), part-part s at m (i + j * k) k fit, drop-drop (j * k) (at + i) s, place))
-    ∙ sym (numbers-getD k n j (drop (at + i) s) few))
 
 -- ---- order
 
@@ -147,18 +134,20 @@ module _ (s : List ℕ) (t : Tally) (w : Walked s t) (entries : ℕ) (e : Model 
       let ones : kindCount 1 (records left) ≡ 1 + kindCount 1 (records (drop next s)) = ap (kindCount 1) passed-record in
       let twos : kindCount 2 (records left) ≡ 0 + kindCount 2 (records (drop next s)) = ap (kindCount 2) passed-record in
       let n : mappingCount body ≡ entries = omega (arith, body-length) in
-      let parts : unitsFrom (records left) ≡ modelUnits entries + unitsFrom (records (drop next s)) = ap unitsFrom passed-record ∙ rw n in
-      (record {
-        within = model-fits;
-        structure = w .structure ∙ well-model left entries front (beforeOf t) (follows-model (eqb (t .models) 0)) ∙ ap (wellFrom 1) behind ∙ well-same (drop next s) ∙ ap (λ (b : ℕ). wellFrom b (drop next s)) (sym (later (t .models + 1) (omega arith)));
-        lowest = w .lowest ∙ ap (min (t .lowest)) lowest-step ∙ joined (t .lowest) (failing 12 (eqb (t .left) 0)) _ ∙ ap (λ (n : ℕ). min n (lowestFrom (numbers 2 entries (drop (t .at + 12) s)) (records (drop next s)))) (sym l);
-        models = omega (arith, w .models);
-        geometries = omega (arith, w .geometries);
-        image = omega (arith, w .image);
-        mapping = omega arith;
-        few = omega (arith, w .few);
-        small = omega (arith, w .small);
-      }, omega arith)
+      let parts : unitsFrom (records left) ≡ modelUnits entries + unitsFrom (records (drop next s)) = ap unitsFrom passed-record ∙ rw n in (
+        record {
+          within = model-fits;
+          structure = w .structure ∙ well-model left entries front (beforeOf t) (follows-model (eqb (t .models) 0)) ∙ ap (wellFrom 1) behind ∙ well-same (drop next s) ∙ ap (λ (b : ℕ). wellFrom b (drop next s)) (sym (later (t .models + 1) (omega arith)));
+          lowest = w .lowest ∙ ap (min (t .lowest)) lowest-step ∙ joined (t .lowest) (failing 12 (eqb (t .left) 0)) _ ∙ ap (λ (n : ℕ). min n (lowestFrom (numbers 2 entries (drop (t .at + 12) s)) (records (drop next s)))) (sym l);
+          models = omega (arith, w .models);
+          geometries = omega (arith, w .geometries);
+          image = omega (arith, w .image);
+          mapping = omega arith;
+          few = omega (arith, w .few);
+          small = omega (arith, w .small);
+        },
+        omega arith,
+      )
 
 -- ---- a geometry passed
 
@@ -197,7 +186,7 @@ module _ (s : List ℕ) (t : Tally) (w : Walked s t) (content held : ℕ) (e : G
   read-is = rw (← (four .content-is), ← (four .held-is))
 
   shader-is : read .shader ≡ field 2 s (t .at + 6)
-  shader-is = field-part 2 here 6 14 0 (omega (arith, four .first .fits)) (omega arith) ∙ field-drop 2 s (t .at) 6 (omega (arith, four .first .fits, length-drop (t .at) s, w .within))
+  shader-is = field-part 2 here 6 14 0 (omega arith) (omega (arith, four .first .fits)) ∙ field-drop 2 s (t .at) 6 (omega (arith, four .first .fits, length-drop (t .at) s, w .within))
 
   lowest-geometry : (answer found shader : ℕ) → shader ≡ field 2 s (t .at + 6) → answer ≡ failing 12 (leads shader (leftOf s t)) → found ≡ lowestOf (frontGeometry here)
       → lowestFrom (leftOf s t) (records here) ≡ min (min answer found) (lowestFrom (numbers 2 (t .left - 1) (drop (t .mapping + 2) s)) (records (drop beyond s)))
@@ -217,18 +206,20 @@ module _ (s : List ℕ) (t : Tally) (w : Walked s t) (content held : ℕ) (e : G
       let c : length (part here 48 (7 + content)) - 7 ≡ content = omega (arith, content-length here content held four) in
       let h : (length (part here (61 + content) (4 + 4 * held)) - 4) / 4 ≡ held = omega (arith, indices-length here content held four) in
       let parts : unitsFrom (records here) ≡ geometryUnits content held + unitsFrom (records (drop beyond s)) = ap unitsFrom passed-records ∙ rw (c, h) in
-      let before : beforeOf t ≡ 5 = later (t .models) (omega arith) in
-      (record {
-        within = geometry-fits;
-        structure = w .structure ∙ rw before (well-geometry here content held four ∙ ap (wellFrom 5) behind-it);
-        lowest = w .lowest ∙ ap (min (t .lowest)) (lowest-geometry answer found shader x a f) ∙ joined (t .lowest) (min answer found) _ ∙ rw (l, r);
-        models = omega (arith, w .models);
-        geometries = omega (arith, w .geometries);
-        image = omega (arith, w .image);
-        mapping = omega (arith, w .mapping);
-        few = omega (arith, w .few);
-        small = omega (arith, w .small);
-      }, omega arith)
+      let before : beforeOf t ≡ 5 = later (t .models) (omega arith) in (
+        record {
+          within = geometry-fits;
+          structure = w .structure ∙ rw before (well-geometry here content held four ∙ ap (wellFrom 5) behind-it);
+          lowest = w .lowest ∙ ap (min (t .lowest)) (lowest-geometry answer found shader x a f) ∙ joined (t .lowest) (min answer found) _ ∙ rw (l, r);
+          models = omega (arith, w .models);
+          geometries = omega (arith, w .geometries);
+          image = omega (arith, w .image);
+          mapping = omega (arith, w .mapping);
+          few = omega (arith, w .few);
+          small = omega (arith, w .small);
+        },
+        omega arith,
+      )
 
   pub geometry-stops : t .models ≡ 0 → Turned s t Stop
   unfolding Turned
@@ -239,3 +230,35 @@ module _ (s : List ℕ) (t : Tally) (w : Walked s t) (content held : ℕ) (e : G
 pub broken-stops : (s : List ℕ) (t : Tally) → Walked s t → t .at < length s → Broken ≡ frontOf (drop (t .at) s) → Turned s t Stop
 unfolding Turned
 broken-stops s t w h e = w .structure ∙ well-broken (drop (t .at) s) (beforeOf t) (begins (eqb (t .models) 0)) (rw length-drop (omega arith)) e
+
+-- ---- as the code tests
+
+pub answered-none : {left : ℕ} (s : List ℕ) (mapping shader : ℕ) → left ≡ 0 → 12 ≡ failing 12 (leads shader (numbers 2 left (drop mapping s)))
+unfolding numbers
+answered-none s mapping shader e = rw e
+
+leads-first : (left : ℕ) (s : List ℕ) (mapping shader : ℕ) → (left ≡ 0 → ⊥) → mapping + 2 * left ≤ length s → leads shader (numbers 2 left (drop mapping s)) ≡ eqb (field 2 s mapping) shader
+unfolding numbers part
+leads-first zero s mapping shader f h = absurd (f refl)
+leads-first (suc left) s mapping shader f h = rw (field-in 2 s mapping (omega arith))
+
+pub answered-other : {left found : ℕ} (s : List ℕ) (mapping shader : ℕ) → (left ≡ 0 → ⊥) → mapping + 2 * left ≤ length s → found ≡ field 2 s mapping → (found ≡ shader → ⊥)
+    → 12 ≡ failing 12 (leads shader (numbers 2 left (drop mapping s)))
+answered-other {left} s mapping shader f h e d = rw (leads-first left s mapping shader f h, ne-eqb (field 2 s mapping) shader (λ q. d (e ∙ q)))
+
+pub answered-same : {left found : ℕ} (s : List ℕ) (mapping shader : ℕ) → (left ≡ 0 → ⊥) → mapping + 2 * left ≤ length s → found ≡ field 2 s mapping → found ≡ shader
+    → 20 ≡ failing 12 (leads shader (numbers 2 left (drop mapping s)))
+answered-same {left} s mapping shader f h e d = rw (leads-first left s mapping shader f h, eq-eqb (field 2 s mapping) shader (sym e ∙ d))
+
+-- what is left of a slice from a place on
+pub slice-rest : (s : List ℕ) (at : ℕ) → take (length s - at) (drop at s) ≡ drop at s
+slice-rest s at = take-all (length s - at) (drop at s) (rw length-drop (omega arith))
+
+-- a turn as the code finds it
+pub turned-on : (s : List ℕ) (t : Tally) (r : Turn) (u : Tally) → Turned s t r → r ≡ On u → Walked s u × (t .at < u .at)
+unfolding Turned
+turned-on s t r u h e = subst (Turned s t) e h
+
+pub turned-stop : (s : List ℕ) (t : Tally) (r : Turn) → Turned s t r → r ≡ Stop → structured s ≡ false
+unfolding Turned
+turned-stop s t r h e = subst (Turned s t) e h

@@ -1,8 +1,8 @@
 // Halls: the list of a drawable's models and geometries.
 mod answer;
 mod check;
-mod front;
 mod find;
+mod front;
 mod judge;
 mod list;
 mod measure;

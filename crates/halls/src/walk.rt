@@ -148,7 +148,10 @@ pub fn examine(list: &[u8]) -> Summary
         }
     }
     let lowest = lower(t.lowest, unanswered(t.left));
-    summary_of(lower(lowest, limits_lowest(t.models, t.geometries, t.units)), t)
+    summary_of(
+        lower(lowest, limits_lowest(t.models, t.geometries, t.units)),
+        t,
+    )
 }
 
 fn start() -> Tally

@@ -25,7 +25,7 @@ content-length-spec =
     (λ c. search needs)
     (λ c κs. search needs)
     (λ c. search needs)
-    (λ c. 
+    (λ c.
     let a : c .before .u32-le .result ≤ 4294967296 = omega arith in
     let b : c .u16-le .result ≤ 65536 = omega arith in
     let p = mul-le-mul a b in omega (arith, p))

@@ -1,25 +1,14 @@
+-- The entry is the first of those left.
+use Rattle.halls.proofs.WalkLaws.{answered-none, answered-other, answered-same}
 use borrow.Author.Needs.{needs}
 use Rattle.halls.proofs.walk.answered.Statement.{statement}
 use Rattle.halls.proofs.walk.answered.Tie as tie
-use Rattle.halls.proofs.walk.answered.Reads as reads
-use Rattle.halls.proofs.walk.answered.Lts as lts
-use Rattle.sections.proofs.u16_le.Reads as u16-le-reads
-
--- src/walk.rt:91:9
-returns : tie.Need-returns
-returns c = ?
-
--- src/walk.rt:93:8
-u16-le-requires : tie.Need-u16-le-requires
-u16-le-requires c κs = search needs
-
--- src/walk.rt:94:9
-returns-2 : tie.Need-returns-2
-returns-2 c = ?
-
--- src/walk.rt:86:1
-returns-3 : tie.Need-returns-3
-returns-3 c = ?
 
 pub answered-spec : {M : Type 1} → statement M
-answered-spec = tie.close (tie.spec returns u16-le-requires returns-2 returns-3)
+answered-spec =
+    tie.close
+    (tie.spec
+    (λ c. let start = c .before .before .args in answered-none (start .list .now) (start .mapping) (start .shader) (c .if1 .taken))
+    (λ c κs. search needs)
+    (λ c. let start = c .before .before .before .before .args in answered-other (start .list .now) (start .mapping) (start .shader) (c .before .before .if1 .left) (c .before .before .before .before .pre) (c .before .u16-le .ensures) (c .if2 .taken))
+    (λ c. let start = c .before .before .before .before .args in answered-same (start .list .now) (start .mapping) (start .shader) (c .before .before .if1 .left) (c .before .before .before .before .pre) (c .before .u16-le .ensures) (c .if2 .left)))

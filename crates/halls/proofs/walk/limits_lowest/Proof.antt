@@ -1,51 +1,26 @@
+-- The tests are the definition's, in units of 16 bytes.
+use mathlib.Core.Bool.{and-false}
+use Prim.Native.Nat.{ℕ, _+_, _*_}
+use native.Mathlib.Omega.{arith}
+use borrow.Author.Tests.{le-leb, lt-leb}
+use lib.Dec.{leb}
+use Rattle.halls.specs.Walk.{units, limitsLowest}
 use borrow.Author.Needs.{needs}
 use Rattle.halls.proofs.walk.limits_lowest.Statement.{statement}
 use Rattle.halls.proofs.walk.limits_lowest.Tie as tie
-use Rattle.halls.proofs.walk.limits_lowest.Reads as reads
-use Rattle.halls.proofs.walk.limits_lowest.Lts as lts
-use Rattle.halls.proofs.walk.units_of.Reads as units-of-reads
 
--- src/walk.rt:191:9
-returns : tie.Need-returns
-returns c = ?
-
--- src/walk.rt:194:9
-returns-2 : tie.Need-returns-2
-returns-2 c = ?
-
--- src/walk.rt:196:8
-sub-if3 : tie.Need-sub-if3
-sub-if3 c = search needs
-
--- src/walk.rt:196:31
-mul-units-of : tie.Need-mul-units-of
-mul-units-of c = search needs
-
--- src/walk.rt:196:22
-units-of-requires : tie.Need-units-of-requires
-units-of-requires c κs = search needs
-
--- src/walk.rt:196:8
-sub-if3-2 : tie.Need-sub-if3-2
-sub-if3-2 c = search needs
-
--- src/walk.rt:197:9
-returns-3 : tie.Need-returns-3
-returns-3 c = ?
-
--- src/walk.rt:187:1
-returns-4 : tie.Need-returns-4
-returns-4 c = ?
+-- header, model pointers and models
+abbrev whole : ℕ → ℕ → ℕ
+whole models parts = 1 + units (8 * models) + parts
 
 pub limits-lowest-spec : {M : Type 1} → statement M
+unfolding limitsLowest
 limits-lowest-spec =
     tie.close
     (tie.spec
-    returns
-    returns-2
-    sub-if3
-    mul-units-of
-    units-of-requires
-    sub-if3-2
-    returns-3
-    returns-4)
+    (λ c. rw (lt-leb _ 256 (c .if1 .taken)))
+    (λ c. rw (lt-leb _ 16384 (c .if2 .taken), and-false (leb (c .before .before .args .models) 256)))
+    (λ c. search needs)
+    (λ c. search needs)
+    (λ c. rw (le-leb _ 256 (c .before .before .if1 .left), le-leb _ 16384 (c .before .if2 .left), lt-leb (whole (c .before .before .before .args .models) (c .before .before .before .args .parts)) 4194304 (omega arith)))
+    (λ c. rw (le-leb _ 256 (c .before .before .if1 .left), le-leb _ 16384 (c .before .if2 .left), le-leb (whole (c .before .before .before .args .models) (c .before .before .before .args .parts)) 4194304 (omega arith))))
