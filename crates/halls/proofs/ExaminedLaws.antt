@@ -11,15 +11,16 @@ use lib.ListN.{length, take, drop, getD, drop-of-length-le}
 use Rattle.sections.proofs.AddressLaws.{both-true}
 use Rattle.vertices.specs.Runs.{numbers}
 use Rattle.halls.specs.Every.{every, sumOf}
-use Rattle.halls.specs.Checks.{sameNumbers, mappingMatches, geometryCount, countsWithinLimits, imageWithinLimit, everyGeometry, verdict, judged}
+use Rattle.halls.specs.Checks.{sameNumbers, mappingMatches, geometryCount, countsWithinLimits, imageWithinLimit, everyGeometry, verdict, judged, hallVerdict}
 use Rattle.halls.specs.Hall.{Hall}
 use Rattle.halls.specs.ImageSize.{padded, geometrySize, modelSize, imageSize}
 use Rattle.halls.specs.Judging.{passed}
 use Rattle.halls.specs.Parsing.{recordsLength, whole, follows, mayEnd, ordered, exact, geometriesIn, modelsIn, structured, parse}
 use Rattle.halls.specs.Records.{Record, records}
-use Rattle.halls.specs.Walk.{wellFrom, isEmpty, failing, lowestFrom, kindCount, units, unitsFrom, leftOf, beforeOf, Walked, verdictOf, limitsLowest, summaryOf, Counted, Examined}
+use Rattle.halls.specs.Walk.{wellFrom, isEmpty, failing, lowestFrom, kindCount, units, unitsFrom, leftOf, beforeOf, Walked, verdictOf, limitsLowest, summaryOf, Counted, Examined, ExaminedFirst}
 use Rattle.halls.specs.declared.check.Verdict.{Verdict}
 use Rattle.halls.specs.declared.check.Verdict.the-variants.{Sound, Fails}
+use Rattle.halls.specs.declared.walk.Summary.{Summary}
 use Rattle.halls.specs.declared.walk.Tally.{Tally}
 use Rattle.halls.proofs.ParsingLaws.{structured-hall}
 use Rattle.halls.proofs.RecordLaws.{records-stop}
@@ -128,3 +129,19 @@ module _ (s : List ℕ) (below : (i : ℕ) → getD s i 0 < 256) (t : Tally) (w 
           → min (min passed (lowestOfModels hall)) (limitsLowest (t .models) (t .geometries) (t .units)) ≡ min (lowestOfModels hall) (cond (countsWithinLimits hall) (failing 19 (imageWithinLimit hall)) 13)
       both-limits true m = rw (limits-are m) (omega (arith, limits-low (countsWithinLimits hall) (imageWithinLimit hall) .1))
       both-limits false m = rw (mapping-lowest hall m) (omega (arith, limits-low (countsWithinLimits hall) (imageWithinLimit hall) .0, tally-limits))
+
+-- ---- the first n bytes of a buffer
+
+pub first-outside : (b : List ℕ) (n : ℕ) (r : Summary) → length b < n → r .lowest ≡ 11 → ExaminedFirst b n r
+unfolding hallVerdict
+first-outside b n r h e = record {
+  verdict = rw (e, lt-leb n (length b) h);
+  counted = λ z. let y : Fails 11 ≡ Sound = rw (lt-leb n (length b) h) at z in let z : _≡_ {A = ℕ} 0 1 = cc in absurd (omega arith);
+}
+
+pub verdict-inside : (b : List ℕ) (n : ℕ) → n ≤ length b → hallVerdict b n ≡ judged (parse (take n b))
+unfolding hallVerdict
+verdict-inside b n h = rw (le-leb n (length b) h)
+
+pub first-inside : (b : List ℕ) (n : ℕ) (r : Summary) → n ≤ length b → Examined (take n b) r → ExaminedFirst b n r
+first-inside b n r h x = record { verdict = x .verdict ∙ sym (verdict-inside b n h); counted = λ z. x .counted (sym (verdict-inside b n h) ∙ z) }

@@ -31,3 +31,5 @@ pub mod ScanLaws
 pub mod JudgingLaws
 pub mod SeekLaws
 pub mod PlaceLaws
+pub mod StepLaws
+pub mod RewrittenLaws

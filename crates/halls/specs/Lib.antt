@@ -18,3 +18,5 @@ pub mod Judging
 pub mod Walk
 pub mod Places
 pub mod Seeking
+pub mod Calls
+pub mod Step

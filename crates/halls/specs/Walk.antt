@@ -5,10 +5,10 @@ use mathlib.Core.List.{List, [], _∷_}
 use mathlib.Core.Option.{Option, some}
 use Prim.Native.Nat.{ℕ, _+_, _*_, _-_, _/_, _≤_, _<_, min}
 use lib.Dec.{eqb, leb}
-use lib.ListN.{length, drop}
+use lib.ListN.{length, take, drop}
 use Rattle.vertices.specs.Runs.{numbers}
 use Rattle.halls.specs.Every.{every}
-use Rattle.halls.specs.Checks.{geometryCount, judged}
+use Rattle.halls.specs.Checks.{geometryCount, judged, hallVerdict}
 use Rattle.halls.specs.Hall.{FullGeometry, Hall}
 use Rattle.halls.specs.ImageSize.{imageSize}
 use Rattle.halls.specs.Judging.{passed, lowestOf, entriesAt, hasModel, contentAt, heldAt, hasGeometry}
@@ -134,3 +134,8 @@ pub record Counted (h : Hall) (r : Summary) : Type 0 where
 pub record Examined (s : List ℕ) (r : Summary) : Type 0 where
   pub verdict : verdictOf (r .lowest) ≡ judged (parse s)
   pub counted : judged (parse s) ≡ Sound → Counted (modelsIn (records s)) r
+
+-- the same of the first n bytes of a buffer
+pub record ExaminedFirst (b : List ℕ) (n : ℕ) (r : Summary) : Type 0 where
+  pub verdict : verdictOf (r .lowest) ≡ hallVerdict b n
+  pub counted : hallVerdict b n ≡ Sound → Counted (modelsIn (records (take n b))) r

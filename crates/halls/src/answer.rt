@@ -1,4 +1,6 @@
 // What a call on a list or a hall answers.
+ghost use mathlib.Core.Path.{_≡_};
+ghost use Rattle.halls.specs.declared.answer.Answer.the-variants.{Refused};
 
 // The number of the check that failed. `needed` is how long the lent buffer would have to be where its length was the reason, else 0.
 pub struct Refusal {
@@ -10,4 +12,10 @@ pub struct Refusal {
 pub enum Answer {
     Accepted(u64),
     Refused(Refusal),
+}
+
+pub fn refused(check: u8, needed: u64) -> Answer
+    ensures { λ r. ⌜ r ≡ Refused (record { check = check; needed = needed }) ⌝ }
+{
+    Answer::Refused(Refusal { check, needed })
 }

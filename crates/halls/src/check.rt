@@ -1,7 +1,8 @@
 // The hall check: whether a list is a hall (document 01, checks 11 to 19).
 ghost use mathlib.Core.Path.{_≡_};
 ghost use Rattle.halls.specs.Checks.{hallVerdict};
-ghost use Rattle.halls.specs.Walk.{verdictOf};
+ghost use Rattle.halls.specs.Walk.{ExaminedFirst, verdictOf};
+use crate::walk::Summary;
 use crate::walk::examine;
 
 // The lowest check that fails anywhere in the hall.
@@ -14,11 +15,23 @@ pub enum Verdict {
 pub fn hall_check(hall: &[u8], n: usize) -> Verdict
     ensures { λ r. ⌜ r ≡ hallVerdict (now (hall .entry)) n ⌝ }
 {
-    if hall.len() < n {
-        return Verdict::Fails(11);
-    }
-    let found = examine(&hall[..n]);
+    let found = examine_first(hall, n);
     verdict_of(found.lowest)
+}
+
+// What the first n bytes of `hall` come to.
+pub fn examine_first(hall: &[u8], n: usize) -> Summary
+    ensures { λ r. ⌜ ExaminedFirst (now (hall .entry)) n r ⌝ }
+{
+    if hall.len() < n {
+        return Summary {
+            lowest: 11,
+            models: 0,
+            geometries: 0,
+            units: 0,
+        };
+    }
+    examine(&hall[..n])
 }
 
 fn verdict_of(lowest: u8) -> Verdict

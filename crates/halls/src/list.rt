@@ -6,9 +6,8 @@ ghost use Rattle.sections.specs.Address.{sections};
 ghost use Rattle.halls.specs.Listing.{fitted, hallList};
 ghost use Rattle.halls.specs.Outcome.{answerOf, after};
 ghost use Rattle.halls.specs.Reading.{need, listAt, readModels};
-ghost use Rattle.halls.specs.declared.answer.Answer.the-variants.{Refused};
 use crate::answer::Answer;
-use crate::answer::Refusal;
+use crate::answer::refused;
 use crate::measure::measure_models;
 use crate::pointers::list_bytes;
 use crate::pointers::unresolved_list;
@@ -58,10 +57,4 @@ fn list_models<'a>(
     }
     write_models(list, 0, system, graphics, pointers);
     Answer::Accepted(measured.length)
-}
-
-fn refused(check: u8, needed: u64) -> Answer
-    ensures { λ r. ⌜ r ≡ Refused (record { check = check; needed = needed }) ⌝ }
-{
-    Answer::Refused(Refusal { check, needed })
 }
