@@ -132,10 +132,10 @@ def verdict(lent, n):
 rows = {}
 
 
-def row(kind, name, n, lent, numbers, data):
+def row(kind, name, n, lent, asked, data):
     assert len(data) <= ROW
     check = verdict(lent, n)
-    rows[packed_with(kind, numbers, data)] = name + hexed(n, len(lent), checksum(lent)) + ":" + (" fails %d" % check if check else " sound")
+    rows[packed_with(kind, asked, data)] = name + hexed(n, len(lent), checksum(lent)) + ":" + (" fails %d" % check if check else " sound")
     return check
 
 
@@ -209,7 +209,7 @@ def place_rows(g, check):
 def geometry_rows(g, check):
     """Alone, and in a later model."""
     for hall in [hall_of([g]), hall_of(others(1), [g])]:
-        assert (check_row(hall) if len(hall) <= ROW else long_row(hall)) == check, (g, check)
+        assert check_row(hall) == check, (g, check)
 
 
 # ---- check 11
@@ -250,8 +250,8 @@ def byte_rows():
 
 def kind_rows():
     """Kinds that are missing, doubled, exchanged or unknown, in a first and in a later geometry."""
-    g, h = geometry(1), geometry(2)
-    model, first, second = model_record([1, 2]), [record(k, body) for k, body in zip([2, 3, 4, 5], bodies(g))], [record(k, body) for k, body in zip([2, 3, 4, 5], bodies(h))]
+    first, second = [[record(kind, body) for kind, body in zip([2, 3, 4, 5], bodies(geometry(shader)))] for shader in (1, 2)]
+    model = model_record([1, 2])
     whole = [model, *first, *second]
     assert check_row(b"".join(whole)) == 0
     for i in range(len(whole)):
@@ -295,9 +295,12 @@ def body_rows():
             parts = [record(k, b) for k, b in whole]
             parts[i] = struct.pack("<I", length) + parts[i][4:]
             check_row(b"".join(parts) + behind)
-    for tail in [b"\0", bytes(5), bytes(6), bytes(12), record(1, b""), record(1, bytes(5)), record(1, bytes(7)), record(1, bytes(6))]:
-        check_row(behind + tail)
-        check_row(tail)
+    for tail in [b"\0", bytes(5), bytes(6), bytes(12)]:
+        assert check_row(behind + tail) == check_row(tail) == 11
+    # bodies of a few bytes, the numbers in them being 0
+    for size in range(10):
+        assert check_row(record(1, bytes(size))) == {6: 0, 8: 12}.get(size, 11)
+        assert check_row(model_record([1]) + geometry_bytes(g)[:-22] + record(5, bytes(size))) == {4: 17, 8: 17}.get(size, 11)
 
 
 def content_rows():
@@ -307,10 +310,9 @@ def content_rows():
         check_row(hall_of([g._replace(count=count, buffer_stride=stride)]))
         check_row(hall_of(others(1), [g._replace(count=count, buffer_stride=stride)]))
     # products that are a few bytes once 2^32 is taken off them, or nothing at all
-    for count, stride, size in [(1 << 31, 2, 0), (1 << 30, 4, 0), (1 << 28, 16, 0), (0x55555558, 12, 32), (0x80000012, 2, 36), (0xFFFFFFFF, 0xFFFF, 1), (0xFFFF0001, 0xFFFF, 0xFFFF)]:
-        wrong = geometry(data=bytes(size), stride=stride, count=3)._replace(count=count, vertices=count & 0xFFFF)
-        hall = hall_of([wrong])
-        assert (check_row(hall) if len(hall) <= ROW else long_row(hall)) == 11
+    for count, stride in [(1 << 31, 2), (1 << 30, 4), (1 << 28, 16), (1 << 17, 1 << 15), (0x55555558, 12), (0x80000012, 2), (0xAAAAAAAE, 6)]:
+        data = bytes(count * stride % (1 << 32))
+        assert check_row(hall_of([geometry(stride=stride, data=data)._replace(count=count, vertices=count & 0xFFFF)])) == 11
     # no bytes at all are right where the stride or the count is 0
     for count, stride in [(0, 0), (0, 12), (3, 0), (0xFFFFFFFF, 0), (0, 0xFFFF)]:
         for flags in [0, 1]:
@@ -321,7 +323,8 @@ def content_rows():
 
 
 def mapping_rows():
-    """One model with a mapping beside its geometries' shader ids, first and later; then mappings that only fit across models."""
+    """One model with a mapping beside its geometries' shader ids, first and later; then two models with wrong mappings, some right across both."""
+
     def model(mapping, shaders):
         return model_record(mapping) + b"".join(geometry_bytes(geometry(shader)) for shader in shaders)
 
@@ -334,6 +337,10 @@ def mapping_rows():
             assert check_row(hall) == check
     for first, second in itertools.product([([1, 2], [1]), ([1], [1, 2]), ([2], [1]), ([], [1]), ([1], [])], [([], [2]), ([2], []), ([1], [2]), ([1], []), ([], [1]), ([1, 2], [2])]):
         assert check_row(model(*first) + model(*second)) == 12
+    # mappings whose record has 2^16 bytes, a few less and more
+    for entries in [32762, 32765, 32768, 100000]:
+        assert long_row(model_record([0] * entries)) == 12
+        assert long_row(hall_of([geometry()]) + model_record([0] * entries) + hall_of([])) == 12
 
 
 def model_count_rows():
@@ -373,8 +380,8 @@ def stride_rows():
             assert check_row(hall_of([other._replace(stride=stride)])) == 14
             assert check_row(hall_of([other._replace(declared_stride=stride)])) == 14
             assert check_row(hall_of([other._replace(stride=stride, declared_stride=stride)])) == (0 if stride > 11 else 15)
-    # strides of a byte, and of all that fits
-    check_row(hall_of([geometry(stride=4, types=1)]))
+    # the least stride and the greatest
+    assert check_row(hall_of([geometry(stride=4, types=1)])) == 0
     assert long_row(hall_of([geometry(stride=65535, data=bytes(3 * 65535))])) == 0
     # the declaration's unknown byte and its count are not asked about
     for unknown, count in [(255, 0), (1, 255), (0, 16)]:
@@ -411,11 +418,11 @@ def component_rows():
                 g = geometry(stride=stride, flags=1 | 1 << bit, types=6 | nibble << 4 * bit)
                 if nibble == 7 or bit in (1, 15):
                     assert check_row(hall_of([g])) == (15 if stride < size else 0)
-    # 2 × 8 + 12 + 16 + 5 × 4 + 12 in the fourth
+    # in the fourth 12 + 4 + 4 + 8 + 8 + 12 + 16 + 4 + 4 + 4
     for types, size in [(0x7777777777777777, 256), (0x1111111111111111, 64), (0x0000000000000007, 16), (0xFEDCBA9876543216, 76)]:
         for stride in [size - 1, size, size + 1]:
-            check_row(hall_of([geometry(stride=stride, flags=0xFFFF, types=types)]))
-            check_row(hall_of([geometry(stride=stride, flags=0xFFFFFFFF, types=types)]))
+            for flags in [0xFFFF, 0xFFFFFFFF]:
+                assert check_row(hall_of([geometry(stride=stride, flags=flags, types=types)])) == (15 if stride < size else 0)
 
 
 def vertex_count_rows():
@@ -492,7 +499,7 @@ def index_rows():
 
 def long_index_rows():
     """A wrong index at the first, middle and last places of longer lists, around multiples of 64 indices."""
-    for triangles in [22, 85, 86, 128, 342, 1366]:
+    for triangles in [22, 85, 86, 128, 342, 1366, 21846]:
         count = 3 * triangles
         base = [2, 1] * (count // 2) + [2] * (count % 2)
         places = {0, 1, count // 2, count - 2, count - 1, count - count % 64, count - count % 256}
@@ -503,6 +510,9 @@ def long_index_rows():
                 items = list(base)
                 items[at] = wrong
                 assert long_row(hall_of([geometry(held=items)])) == 18
+    # 65,538 indices, a number whose lower 16 bits are 2
+    for field in ["indices", "index_count"]:
+        assert long_row(hall_of([geometry(held=[2, 1] * 32769)._replace(**{field: 2})])) == 17
     # two wrong ones, and a wrong one in the second of two long lists
     base = [2, 1] * 384
     wrong = base[:700] + [3] + base[701:]
