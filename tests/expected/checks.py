@@ -573,7 +573,7 @@ FIELDS = [("layout", 2), ("stride", 30), ("declared_stride", 30), ("vertices", 6
 def random_rows():
     """Seeded, so that they are the same each time: some fields changed, or an index, or some bytes."""
     pick = random.Random(2)
-    for _ in range(150):
+    for _ in range(100):
         models = random_hall(pick)
         for _ in range(pick.choice([0, 1, 1, 2, 3])):
             model = pick.choice(models)
