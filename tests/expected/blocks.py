@@ -1,4 +1,4 @@
-"""Blocks of document 01 that more than one maker of rows needs: vertex blocks and declarations, written and read."""
+"""Parts of document 01's formats that more than one maker of rows needs: vertex blocks and declarations, written and read, and a list's records."""
 import struct
 
 from rows import locate
@@ -15,6 +15,10 @@ def declaration_fields(data, at):
 
 def declaration_bytes(flags, stride, unknown, count, types):
     return struct.pack("<IHBBQ", flags, stride, unknown, count, types)
+
+
+def record(kind, body):
+    return struct.pack("<IH", len(body), kind) + body
 
 
 LAYOUTS = ["Legacy", "LegacyData2", "Gen9", "GeometryInline"]

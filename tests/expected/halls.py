@@ -1,11 +1,12 @@
 #!/usr/bin/env python3
-"""Makes the drawables that crates/halls_test reads and the lines that it must print. Run it in the repository's root:
+"""Makes the drawables and halls that crates/halls_test reads and the lines that it must print. Run it in the repository's root:
 python3 tests/expected/halls.py
 
 It writes crates/halls_test/stdin, rows of seven little-endian u64 (what is called, what with, and how many bytes follow) and those bytes,
 and crates/halls_test/stdout. The answers come from a reader written here from document 01 (`pieces`). Where cargo and the original Rust are at
 hand (rust/differential/README.md), the oracle is asked too, and the two must agree on every drawable. The Rust has no checks 1, 5 and 7: it is not asked
-about drawables that 1 or 5 refuse, nor about lists of 64 MiB and more, and of the others the whole list is compared."""
+about drawables that 1 or 5 refuse, nor about lists of 64 MiB and more, and of the others the whole list is compared.
+The rows of the hall check are made in checks.py; the Rust has no such check."""
 import collections
 import functools
 import itertools
@@ -15,7 +16,8 @@ import shutil
 import struct
 import subprocess
 
-from blocks import declaration_bytes, field, find_buffer, gen9_block, legacy_block
+from blocks import declaration_bytes, field, find_buffer, gen9_block, legacy_block, record
+from checks import check_rows
 from rows import GRAPHICS, SYSTEM, U64, checksum, hexed, locate, packed_with, pattern, store
 
 BASES = {"system": SYSTEM, "graphics": GRAPHICS}
@@ -44,10 +46,6 @@ def number_list(sections, pointer, count, width):
         return []
     raw = resolve(sections, pointer, count * width)
     return None if raw is None else struct.unpack("<%d%s" % (count, {2: "H", 4: "I", 8: "Q"}[width]), raw)
-
-
-def record(kind, body):
-    return struct.pack("<IH", len(body), kind) + body
 
 
 def indices_of(sections, raw):
@@ -734,4 +732,6 @@ many_rows()
 enormous_rows()
 random_rows()
 ask_oracle()
-store("halls_test", rows, lines)
+halls, verdicts = check_rows()
+print("%d of the rows are about the hall check" % len(halls))
+store("halls_test", rows + halls, lines + verdicts)

@@ -1,6 +1,8 @@
-// Reads the drawables of standard input through the crate `halls` and prints a line for each: what was asked, in hexadecimal, what was
-// answered, the checksum of the list's buffer, and a short list's bytes. tests/expected/halls.py makes both the drawables and the lines.
+// Reads the drawables of standard input through the crate `halls`, checks its halls, and prints a line for each: what was asked, in
+// hexadecimal, and what was answered; of a drawable also the checksum of the list's buffer and a short list's bytes.
+// tests/expected/halls.py makes the drawables, the halls and the lines.
 mod buffers;
+mod checks;
 mod drawables;
 
 use libc::STDIN_FILENO;
@@ -15,6 +17,8 @@ fn run(row: Row, data: &[u8]) {
         0 => drawables::list_row(row, data),
         1 => drawables::long_row(row, data),
         2 => drawables::binding_row(row),
+        3 => checks::check_row(row, data),
+        4 => checks::long_check_row(row, data),
         _ => testing::text(b"unknown row\n"),
     }
 }

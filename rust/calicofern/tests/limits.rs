@@ -1,0 +1,232 @@
+//! The limits of checks 13, 16, 18 and 19, on lists that are longer than the rows of crates/halls_test.
+
+use calicofern::hall_check;
+
+/// Document 01: the most bytes of an image.
+const IMAGE_LIMIT: u64 = 67_108_864;
+
+/// A geometry of zeros: a position of two halves in each vertex, and indices that are all 0.
+#[derive(Clone, Copy)]
+struct Geometry {
+    /// As the geometry's own record says.
+    vertices: u16,
+    layout: u8,
+    stride: u16,
+    count: u32,
+    indices: u32,
+}
+
+/// A list that is written from its first byte on, over zeros.
+struct Writer {
+    list: Vec<u8>,
+    at: usize,
+}
+
+impl Writer {
+    fn put(&mut self, bytes: &[u8]) {
+        self.list[self.at..self.at + bytes.len()].copy_from_slice(bytes);
+        self.at += bytes.len();
+    }
+
+    /// How a record begins: its body's length and its kind.
+    fn record(&mut self, length: usize, kind: u16) {
+        self.put(&(length as u32).to_le_bytes());
+        self.put(&kind.to_le_bytes());
+    }
+}
+
+impl Geometry {
+    /// The smallest sound one: one vertex and a triangle.
+    const SMALL: Geometry = Geometry::new(1, 4, 3);
+
+    const fn new(count: u32, stride: u16, indices: u32) -> Geometry {
+        Geometry { vertices: count as u16, layout: 0, stride, count, indices }
+    }
+
+    fn vertex_bytes(&self) -> usize {
+        self.count as usize * usize::from(self.stride)
+    }
+
+    /// Its length in a list.
+    fn length(&self) -> usize {
+        65 + self.vertex_bytes() + 4 * self.indices as usize
+    }
+
+    fn write(&self, out: &mut Writer) {
+        out.record(14, 2);
+        out.put(&0u16.to_le_bytes());
+        out.put(&self.indices.to_le_bytes());
+        out.put(&(self.indices / 3).to_le_bytes());
+        out.put(&self.vertices.to_le_bytes());
+        out.put(&self.stride.to_le_bytes());
+        out.record(16, 3);
+        out.put(&1u32.to_le_bytes());
+        out.put(&self.stride.to_le_bytes());
+        out.put(&[0, 1]);
+        out.put(&1u64.to_le_bytes());
+        out.record(7 + self.vertex_bytes(), 4);
+        out.put(&[self.layout]);
+        out.put(&self.stride.to_le_bytes());
+        out.put(&self.count.to_le_bytes());
+        out.at += self.vertex_bytes();
+        out.record(4 + 4 * self.indices as usize, 5);
+        out.put(&self.indices.to_le_bytes());
+        out.at += 4 * self.indices as usize;
+    }
+}
+
+/// The list of models, each given by its geometries. All shader ids are 0, and so are the mappings' entries.
+fn list_of(models: &[Vec<Geometry>]) -> Vec<u8> {
+    let lengths = models.iter().map(|model| 12 + 2 * model.len() + model.iter().map(Geometry::length).sum::<usize>());
+    let mut out = Writer { list: vec![0; lengths.sum()], at: 0 };
+    for model in models {
+        out.record(6 + 2 * model.len(), 1);
+        out.at += 6 + 2 * model.len();
+        for geometry in model {
+            geometry.write(&mut out);
+        }
+    }
+    assert_eq!(out.at, out.list.len());
+    out.list
+}
+
+/// The length of the image: each of its pieces starts at a multiple of 16, and so does its end.
+fn image_size(models: &[Vec<Geometry>]) -> u64 {
+    let padded = |length: usize| (length as u64).div_ceil(16) * 16;
+    let mut size = padded(16) + padded(8 * models.len());
+    for model in models {
+        size += padded(0x30) + padded(8 * model.len()) + padded(2 * model.len());
+        for geometry in model {
+            size += padded(0x98) + padded(0x80) + padded(16) + padded(geometry.vertex_bytes());
+            size += padded(0x60) + padded(2 * geometry.indices as usize);
+        }
+    }
+    size
+}
+
+/// The number of the check that a list fails, or 0.
+fn failed(list: &[u8]) -> u8 {
+    hall_check(list).map_or_else(|refusal| refusal.check(), |()| 0)
+}
+
+fn check(models: &[Vec<Geometry>]) -> u8 {
+    failed(&list_of(models))
+}
+
+/// Gives the last geometry as many indices as make the image so long.
+fn grow(models: &mut [Vec<Geometry>], size: u64) {
+    let rest = size - image_size(models);
+    let last = models.last_mut().and_then(|model| model.last_mut()).unwrap();
+    let padded = u64::from(last.indices).div_ceil(8) * 16 + rest;
+    last.indices = (padded / 2 / 3 * 3) as u32;
+    assert_eq!(image_size(models), size);
+}
+
+#[test]
+fn lengths_of_small_halls() {
+    let models = [vec![Geometry::new(3, 12, 3)]];
+    assert_eq!((list_of(&models).len(), image_size(&models), check(&models)), (127, 576, 0));
+    assert_eq!((image_size(&[]), check(&[])), (16, 0));
+}
+
+#[test]
+fn models_up_to_256() {
+    for (count, expected) in [(256, 0), (257, 13), (65_536, 13), (65_537, 13)] {
+        assert_eq!(check(&vec![Vec::new(); count]), expected, "{count}");
+        assert_eq!(check(&vec![vec![Geometry::SMALL]; count]), expected, "{count}");
+    }
+}
+
+#[test]
+fn geometries_up_to_16384() {
+    for (count, expected) in [(16_383, 0), (16_384, 0), (16_385, 13), (65_536, 13), (65_537, 13)] {
+        assert_eq!(check(&[vec![Geometry::SMALL; count]]), expected, "{count}");
+        // over many models, of which the first and the last have none
+        let mut models = vec![Vec::new()];
+        models.extend(vec![Geometry::SMALL; count].chunks(300).map(|part| part.to_vec()));
+        models.push(Vec::new());
+        assert_eq!(check(&models), expected, "{count} in {} models", models.len());
+    }
+}
+
+#[test]
+fn a_lower_check_comes_before_the_number_of_geometries() {
+    let mut list = list_of(&[vec![Geometry::SMALL; 16_385]]);
+    // an entry of the mapping
+    list[12 + 2 * 16_384] = 1;
+    assert_eq!(failed(&list), 12);
+    list.push(0);
+    assert_eq!(failed(&list), 11);
+    // a higher one does not, at the first place or at the last
+    for place in [0, 16_384] {
+        let mut model = vec![Geometry::SMALL; 16_385];
+        model[place].layout = 1;
+        assert_eq!(check(&[model]), 13);
+        let mut model = vec![Geometry::SMALL; 16_384];
+        model[place.min(16_383)].layout = 1;
+        assert_eq!(check(&[model]), 14);
+    }
+}
+
+#[test]
+fn vertices_up_to_65535() {
+    for stride in [4, 12, 1000] {
+        assert_eq!(check(&[vec![Geometry::new(65_535, stride, 3)]]), 0);
+        for vertices in [0, 1, 65_535] {
+            for count in [65_536, 65_537] {
+                assert_eq!(check(&[vec![Geometry { vertices, ..Geometry::new(count, stride, 3) }]]), 16, "{vertices} {count}");
+            }
+        }
+    }
+}
+
+#[test]
+fn indices_below_65535() {
+    let models = [vec![Geometry::SMALL], vec![Geometry::new(65_535, 4, 3_000)]];
+    for back in [1, 2, 1_500, 2_900, 3_000] {
+        for (index, expected) in [(65_534u32, 0), (65_535, 18), (65_536, 18), (u32::MAX, 18)] {
+            let mut list = list_of(&models);
+            let at = list.len() - 4 * back;
+            list[at..at + 4].copy_from_slice(&index.to_le_bytes());
+            assert_eq!(failed(&list), expected, "{index} at {back} from the end");
+        }
+    }
+}
+
+/// At the limit, and one piece of 16 bytes beyond it.
+fn check_at_the_limit(mut models: Vec<Vec<Geometry>>) {
+    grow(&mut models, IMAGE_LIMIT);
+    assert_eq!(check(&models), 0);
+    grow(&mut models, IMAGE_LIMIT + 16);
+    let mut list = list_of(&models);
+    assert_eq!(failed(&list), 19);
+    // the last index is judged first
+    let last = list.len() - 1;
+    list[last] = 0x80;
+    assert_eq!(failed(&list), 18);
+}
+
+#[test]
+fn an_image_of_vertices() {
+    check_at_the_limit(vec![vec![Geometry::new(65_535, 1_023, 3)]]);
+}
+
+#[test]
+fn an_image_of_indices() {
+    check_at_the_limit(vec![vec![Geometry::SMALL]]);
+}
+
+#[test]
+fn an_image_of_many_pieces() {
+    // an odd number of models, of geometries, and of bytes in each
+    let model = vec![Geometry::new(41, 99, 33); 57];
+    check_at_the_limit([vec![Vec::new(); 2], vec![model; 253]].concat());
+}
+
+#[test]
+fn an_image_of_twice_the_limit() {
+    let large = Geometry::new(65_535, 1_024, 3);
+    assert_eq!(check(&[vec![large]]), 0);
+    assert_eq!(check(&[vec![large, large]]), 19);
+    assert_eq!(check(&[vec![large], vec![large]]), 19);
+}
