@@ -22,6 +22,7 @@ use Rattle.halls.specs.declared.check.Verdict.{Verdict}
 use Rattle.halls.specs.declared.check.Verdict.the-variants.{Sound, Fails}
 use Rattle.halls.specs.declared.walk.Summary.{Summary}
 use Rattle.halls.specs.declared.walk.Tally.{Tally}
+use Rattle.halls.proofs.LimitLaws.{wholeLowest, limits-of}
 use Rattle.halls.proofs.ParsingLaws.{structured-hall}
 use Rattle.halls.proofs.RecordLaws.{records-stop}
 use Rattle.halls.proofs.SoundLaws.{verdict-sound}
@@ -53,13 +54,6 @@ limits-low : (counts image : Bool) → (13 ≤ cond counts (failing 19 image) 13
 limits-low true true = (omega arith, omega arith)
 limits-low true false = (omega arith, omega arith)
 limits-low false image = (omega arith, omega arith)
-
-sixteenth : (x : ℕ) → leb (16 * x) 67108864 ≡ leb x 4194304
-sixteenth x = on (leb x 4194304) refl
-  where
-    on : (t : Bool) → leb x 4194304 ≡ t → leb (16 * x) 67108864 ≡ t
-    on true e = let h : x ≤ 4194304 = leb-true x 4194304 e in le-leb (16 * x) 67108864 (omega arith)
-    on false e = let h : 4194304 < x = leb-false x 4194304 e in lt-leb (16 * x) 67108864 (omega arith)
 
 module _ (s : List ℕ) (below : (i : ℕ) → getD s i 0 < 256) (t : Tally) (w : Walked s t) (end : length s ≤ t .at) where
   abbrev hall : Hall
@@ -107,9 +101,8 @@ module _ (s : List ℕ) (below : (i : ℕ) → getD s i 0 < 256) (t : Tally) (w 
       let z : sumOf geometrySize (geometriesIn (records s)) ≡ 0 = ap (sumOf geometrySize) first-model in
       omega (arith, w .image, image-units (records s), size-by-mapping hall m, models-are)
 
-  limits-are : every mappingMatches hall ≡ true → limitsLowest (t .models) (t .geometries) (t .units) ≡ cond (countsWithinLimits hall) (failing 19 (imageWithinLimit hall)) 13
-  unfolding limitsLowest countsWithinLimits imageWithinLimit
-  limits-are m = rw (← models-are, ← geometries-are, ← (units-are m), sixteenth (1 + units (8 * t .models) + t .units))
+  limits-are : every mappingMatches hall ≡ true → limitsLowest (t .models) (t .geometries) (t .units) ≡ wholeLowest hall
+  limits-are m = limits-of hall (t .models) (t .geometries) (t .units) models-are geometries-are (units-are m)
 
   tally-limits : 13 ≤ limitsLowest (t .models) (t .geometries) (t .units)
   unfolding limitsLowest
@@ -117,7 +110,7 @@ module _ (s : List ℕ) (below : (i : ℕ) → getD s i 0 < 256) (t : Tally) (w 
 
   pub examined-end : (lowest : ℕ) → lowest ≡ min (min (t .lowest) (failing 12 (eqb (t .left) 0))) (limitsLowest (t .models) (t .geometries) (t .units)) → Examined s (summaryOf lowest t)
   examined-end lowest e =
-      let same : lowest ≡ min (lowestOfModels hall) (cond (countsWithinLimits hall) (failing 19 (imageWithinLimit hall)) 13) = e ∙ rw lowest-is (both-limits (every mappingMatches hall) refl) in
+      let same : lowest ≡ min (lowestOfModels hall) (wholeLowest hall) = e ∙ rw lowest-is (both-limits (every mappingMatches hall) refl) in
       record {
         verdict = ap (λ (n : ℕ). verdictOf n) same ∙ verdict-lowest hall (structured-hall s below is-structured .exact-bytes) ∙ sym verdict-is;
         counted = λ z.
@@ -126,7 +119,7 @@ module _ (s : List ℕ) (below : (i : ℕ) → getD s i 0 < 256) (t : Tally) (w 
       }
     where
       both-limits : (b : Bool) → every mappingMatches hall ≡ b
-          → min (min passed (lowestOfModels hall)) (limitsLowest (t .models) (t .geometries) (t .units)) ≡ min (lowestOfModels hall) (cond (countsWithinLimits hall) (failing 19 (imageWithinLimit hall)) 13)
+          → min (min passed (lowestOfModels hall)) (limitsLowest (t .models) (t .geometries) (t .units)) ≡ min (lowestOfModels hall) (wholeLowest hall)
       both-limits true m = rw (limits-are m) (omega (arith, limits-low (countsWithinLimits hall) (imageWithinLimit hall) .1))
       both-limits false m = rw (mapping-lowest hall m) (omega (arith, limits-low (countsWithinLimits hall) (imageWithinLimit hall) .0, tally-limits))
 

@@ -26,6 +26,7 @@ pub mod EveryLaws
 pub mod ParsingLaws
 pub mod SoundLaws
 pub mod StateLaws
+pub mod LimitLaws
 pub mod ExaminedLaws
 pub mod ScanLaws
 pub mod JudgingLaws

@@ -11,7 +11,7 @@ use lib.Seq.{drop-drop, take-at, drop-at}
 use Rattle.sections.specs.Edit.{part}
 use Rattle.sections.specs.Le.{bytes, field}
 use Rattle.sections.proofs.LeLaws.{field-in, le-bytes, length-bytes}
-use Rattle.halls.specs.List.{recordBytes}
+use Rattle.halls.specs.List.{recordBytes, modelNumbers}
 use Rattle.halls.specs.Records.{Record, bodyLength, frontRecord, firstRecords, records}
 use Rattle.halls.proofs.ViewLaws.{record-length}
 
@@ -34,6 +34,15 @@ field-behind before after k v at e h =
     let fit : at + k ≤ length (before ++ (bytes k v ++ after)) = simp (length-append, length-bytes) (omega arith) in
     field-in k (before ++ (bytes k v ++ after)) at fit
     ∙ rw (drop-at before (bytes k v ++ after) at e, take-at (bytes k v) after k (length-bytes k v)) (le-bytes k v h)
+
+-- ---- a model's record, number by number
+
+pub model-parts : (binding mask : ℕ) (mapping : List ℕ) → modelNumbers (6 + length mapping) binding mask ++ mapping ≡ recordBytes 1 (bytes 4 binding ++ (bytes 2 mask ++ mapping))
+unfolding recordBytes bytes
+model-parts binding mask mapping =
+    let body : List ℕ = bytes 4 binding ++ (bytes 2 mask ++ mapping) in
+    let q : 6 + length mapping ≡ length body = omega arith in
+    ap (λ n. bytes 4 n ++ (bytes 2 1 ++ body)) q
 
 -- ---- a step and a stop
 

@@ -72,6 +72,10 @@ indicesBody i = bytes 4 (i .count) ++ run 4 (i .items)
 unfoldable pub modelRecord : Model → List ℕ
 modelRecord m = recordBytes 1 (modelBody m)
 
+-- its first 12 bytes
+abbrev pub modelNumbers : ℕ → ℕ → ℕ → List ℕ
+modelNumbers body binding mask = ((bytes 4 body ++ bytes 2 1) ++ bytes 4 binding) ++ bytes 2 mask
+
 unfoldable pub geometryRecord : Geometry → List ℕ
 geometryRecord g = recordBytes 2 (geometryBody g)
 

@@ -7,7 +7,7 @@ ghost use Rattle.sections.specs.Edit.{overwrite};
 ghost use Rattle.sections.specs.Le.{bytes};
 ghost use Rattle.vertices.specs.Buffer.{layoutNumber};
 ghost use Rattle.vertices.specs.Runs.{numbers, run};
-ghost use Rattle.halls.specs.List.{recordBytes, geometryRecord, declarationRecord, verticesRecord, indicesRecord};
+ghost use Rattle.halls.specs.List.{recordBytes, modelNumbers, geometryRecord, declarationRecord, verticesRecord, indicesRecord};
 ghost use Rattle.halls.specs.View.{numbersSeen, HeldIn, heldCount, indicesIn, indicesLength};
 ghost use Rattle.halls.specs.declared.view.FoundIndices.the-variants.{Indices};
 use crate::view::GeometryView;
@@ -27,10 +27,18 @@ pub fn put_model(out: &mut [u8], at: usize, binding: u32, mask: u16, mapping: &[
     requires { ⌜ (at + (12 + length (now mapping)) ≤ length (now out)) × (length (now mapping) < 2 ^ 31) × (length (now mapping) / 2 * 2 ≡ length (now mapping)) ⌝ }
     ensures { λ _. ⌜ now (out .exit) ≡ overwrite (now (out .entry)) at (recordBytes 1 (bytes 4 binding ++ (bytes 2 mask ++ run 2 (numbers 2 (length (now (mapping .entry)) / 2) (now (mapping .entry)))))) ⌝ }
 {
-    put_head(out, at, (6 + mapping.len()) as u32, 1);
+    put_model_numbers(out, at, (6 + mapping.len()) as u32, binding, mask);
+    copy_into(out, at + 12, mapping);
+}
+
+// Kind 1 up to the mapping: 12 bytes.
+pub fn put_model_numbers(out: &mut [u8], at: usize, body: u32, binding: u32, mask: u16)
+    requires { ⌜ at + 12 ≤ length (now out) ⌝ }
+    ensures { λ _. ⌜ now (out .exit) ≡ overwrite (now (out .entry)) at (modelNumbers body binding mask) ⌝ }
+{
+    put_head(out, at, body, 1);
     put_u32_le(out, at + 6, binding);
     put_u16_le(out, at + 10, mask);
-    copy_into(out, at + 12, mapping);
 }
 
 // Kind 2: 20 bytes.
