@@ -1,4 +1,5 @@
 // Halls: the list of a drawable's models and geometries.
+mod add;
 mod answer;
 mod check;
 mod find;
@@ -17,6 +18,7 @@ mod walk;
 mod widen;
 mod write;
 
+pub use add::add_model;
 pub use answer::Answer;
 pub use answer::Refusal;
 pub use check::Verdict;

@@ -180,7 +180,7 @@ fn summary_of(lowest: u8, t: Tally) -> Summary
 }
 
 // Checks 13 and 19.
-fn limits_lowest(models: usize, geometries: usize, parts: usize) -> u8
+pub fn limits_lowest(models: usize, geometries: usize, parts: usize) -> u8
     ensures { λ r. ⌜ r ≡ limitsLowest models geometries parts ⌝ }
 {
     if 256 < models {
