@@ -34,3 +34,4 @@ pub mod SeekLaws
 pub mod PlaceLaws
 pub mod StepLaws
 pub mod RewrittenLaws
+pub mod SoundEdits

@@ -72,6 +72,8 @@ pub record SoundGeometry (g : FullGeometry) : Type 0 where
   pub layout : g .vertices .layout ≡ 0
   pub declared-stride : g .declaration .stride ≡ g .stride
   pub vertices-stride : g .vertices .stride ≡ g .stride
+  pub position : hasSize (componentOf (g .declaration) 0) ≡ true
+  pub inside : totalSize (g .declaration) ≤ g .stride
   pub some-stride : 0 < g .stride
   pub vertex-count : g .vertexCount ≡ g .vertices .count
   pub some-vertices : 1 ≤ g .vertices .count
@@ -104,6 +106,8 @@ sound-geometry g a b c d e f =
       layout = eqb-true (g .vertices .layout) 0 (b1 .0);
       declared-stride = eqb-true (g .declaration .stride) (g .stride) (b2 .0);
       vertices-stride = eqb-true (g .vertices .stride) (g .stride) (b2 .1);
+      position = c1 .0;
+      inside = leb-true (totalSize (g .declaration)) (g .stride) (c1 .1);
       some-stride = omega (arith, sized (g .declaration) (componentOf (g .declaration) 0) refl (c1 .0), leb-true (totalSize (g .declaration)) (g .stride) (c1 .1));
       vertex-count = eqb-true (g .vertexCount) (g .vertices .count) (d1 .0);
       some-vertices = leb-true 1 (g .vertices .count) (d2 .0);
