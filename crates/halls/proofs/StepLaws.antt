@@ -96,3 +96,7 @@ module _ (c : Call) (b : List ℕ) (n : ℕ) where
               answer = ap {B = Answer} Accepted (l ∙ ap length (sym new-bytes)) ∙ s .answer;
               bytes = w ∙ ap (rewritten b n) (sym new-bytes) ∙ s .bytes;
             }
+
+-- with the answer that a function was handed
+pub answered-as : {c : Call} {b : List ℕ} {n : ℕ} {t : List ℕ} {r r′ : Answer} → r ≡ r′ → Stepped c b n r′ t → Stepped c b n r t
+answered-as e s = record { answer = e ∙ s .answer; bytes = s .bytes }

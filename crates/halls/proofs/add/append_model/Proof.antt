@@ -1,73 +1,24 @@
+-- The result's checks are those of its limits and its length.
+use native.Mathlib.Omega.{arith}
 use borrow.Author.Needs.{needs}
+use Rattle.halls.proofs.AddedModel.{added-few, added-small, added-judged, added-long, added-done}
+use Rattle.halls.proofs.StepLaws.{answered-as}
 use Rattle.halls.proofs.add.append_model.Statement.{statement}
 use Rattle.halls.proofs.add.append_model.Tie as tie
-use Rattle.halls.proofs.add.append_model.Reads as reads
-use Rattle.halls.proofs.add.append_model.Lts as lts
-use Rattle.halls.proofs.answer.refused.Reads as refused-reads
-use Rattle.halls.proofs.records.put_model_numbers.Reads as put-model-numbers-reads
-use Rattle.halls.proofs.walk.limits_lowest.Reads as limits-lowest-reads
-
--- src/add.rt:30:32
-add-limits-lowest : tie.Need-add-limits-lowest
-add-limits-lowest c = ?
-
--- src/add.rt:30:68
-add-limits-lowest-2 : tie.Need-add-limits-lowest-2
-add-limits-lowest-2 c = ?
-
--- src/add.rt:30:9
-limits-lowest-requires : tie.Need-limits-lowest-requires
-limits-lowest-requires c κs = search needs
-
--- src/add.rt:32:9
-refused-requires : tie.Need-refused-requires
-refused-requires c κs = search needs
-
--- src/add.rt:32:9
-returns : tie.Need-returns
-returns c = ?
-
--- src/add.rt:34:18
-add-needed : tie.Need-add-needed
-add-needed c = search needs
-
--- src/add.rt:35:8
-sub-if2 : tie.Need-sub-if2
-sub-if2 c = search needs
-
--- src/add.rt:36:9
-refused-requires-2 : tie.Need-refused-requires-2
-refused-requires-2 c κs = search needs
-
--- src/add.rt:36:9
-returns-2 : tie.Need-returns-2
-returns-2 c = ?
-
--- src/add.rt:38:5
-put-model-numbers-requires : tie.Need-put-model-numbers-requires
-put-model-numbers-requires c κs = search needs
-
--- src/add.rt:26:1
-same-length : tie.Need-same-length
-same-length c = search needs
-
--- src/add.rt:26:1
-returns-3 : tie.Need-returns-3
-returns-3 c = ?
 
 pub append-model-spec : {M : Type 1} → statement M
 append-model-spec =
     tie.close
     (tie.spec
-    add-limits-lowest
-    add-limits-lowest-2
-    limits-lowest-requires
-    refused-requires
-    returns
-    add-needed
-    sub-if2
-    refused-requires-2
-    returns-2
-    put-model-numbers-requires
-    same-length
-    returns-3)
+    (λ c. let start = c .before .before in omega (arith, added-few _ _ 0 0 (start .pre .0) _ (start .pre .1)))
+    (λ c. let start = c .before .before .before in omega (arith, added-small _ _ 0 0 (start .pre .0) _ (start .pre .1)))
+    (λ c κs. search needs)
+    (λ c κs. search needs)
+    (λ c. let start = c .before .before .before .before .before .before in answered-as (c .refused .ensures) (added-judged _ _ _ _ (start .pre .0) _ (start .pre .1) _ (c .before .before .limits-lowest .ensures) (c .before .if1 .taken)))
+    (λ c. let start = c .before .before .before .before .before in omega (arith, start .pre .0 .within))
+    (λ c. let start = c .before .before .before .before .before in omega (arith, start .pre .0 .within))
+    (λ c κs. search needs)
+    (λ c. let start = c .before .before .before .before .before .before .before in answered-as (c .refused2 .ensures) (added-long _ _ _ _ (start .pre .0) _ (start .pre .1) _ (c .before .before .before .limits-lowest .ensures) (c .before .before .if1 .left) (omega (arith, start .pre .0 .within))))
+    (λ c κs. let start = c .before .before .before .before .before .before .before in omega (arith, start .pre .0 .within))
+    (λ c. search needs)
+    (λ c. let start = c .before .before .before .before .before .before .before .before .before .before in added-done _ _ _ _ (start .pre .0) _ (start .pre .1) _ (c .before .before .before .before .before .before .limits-lowest .ensures) (c .before .before .before .before .before .if1 .left) _ (omega (arith, start .pre .0 .within)) (c .before .before .put-model-numbers .ensures)))
