@@ -1,8 +1,8 @@
 -- A model without geometries at the end of a sound hall.
 use mathlib.Core.Path.{_≡_, refl, sym, ap, _∙_}
-use mathlib.Core.Bool.{Bool, true, false, _&&_}
-use mathlib.Core.List.{List, [], _∷_, _++_, append-nil, map}
-use Prim.Native.Nat.{ℕ, _+_, _*_, _-_, _/_, _≤_, _<_}
+use mathlib.Core.Bool.{Bool, true}
+use mathlib.Core.List.{List, [], _∷_, _++_, append-nil}
+use Prim.Native.Nat.{ℕ, _+_, _*_, _-_, _≤_, _<_}
 use native.Mathlib.Omega.{arith}
 use borrow.Author.Tests.{le-leb, lt-leb, leb-true}
 use lib.Dec.{leb}
@@ -11,19 +11,19 @@ use Rattle.sections.specs.Edit.{overwrite}
 use Rattle.sections.specs.Le.{bytes}
 use Rattle.sections.proofs.AddressLaws.{both-true}
 use Rattle.vertices.specs.Runs.{run}
-use Rattle.halls.specs.Calls.{Call, addModel, proposed}
+use Rattle.halls.specs.Calls.{addModel, proposed}
 use Rattle.halls.specs.Checks.{sameNumbers, mappingMatches, geometryCount, countsWithinLimits, imageWithinLimit, verdict}
 use Rattle.halls.specs.Every.{every, sumOf}
-use Rattle.halls.specs.Hall.{FullGeometry, FullModel, Hall, hallBytes}
+use Rattle.halls.specs.Hall.{FullModel, Hall, hallBytes}
 use Rattle.halls.specs.ImageSize.{modelSize, imageSize}
-use Rattle.halls.specs.List.{each, recordBytes, modelNumbers, modelRecord, writeModel}
+use Rattle.halls.specs.List.{each, modelNumbers, modelRecord, writeModel}
 use Rattle.halls.specs.Old.{hallIn, Old}
 use Rattle.halls.specs.Reading.{read}
-use Rattle.halls.specs.State.{Model, State, fullModel, hallOf}
+use Rattle.halls.specs.State.{State, fullModel, hallOf}
 use Rattle.halls.specs.Step.{stateIn, rewritten, Stepped}
 use Rattle.halls.specs.Walk.{units, verdictOf, limitsLowest, Counted}
 use Rattle.halls.specs.declared.answer.Answer.the-variants.{Accepted, Refused}
-use Rattle.halls.specs.declared.check.Verdict.the-variants.{Sound, Fails}
+use Rattle.halls.specs.declared.check.Verdict.the-variants.{Sound}
 use Rattle.halls.specs.declared.walk.Summary.{Summary}
 use Rattle.halls.proofs.LimitLaws.{EachPasses, limits-of, limits-verdict}
 use Rattle.halls.proofs.RecordLaws.{model-parts}

@@ -1,24 +1,21 @@
 -- What the walk's ends say of the whole list.
-use mathlib.Core.Path.{_≡_, refl, sym, ap, _∙_, subst}
+use mathlib.Core.Path.{_≡_, refl, sym, ap, _∙_}
 use mathlib.Core.Bool.{Bool, true, false, cond, _&&_}
 use mathlib.Core.List.{List, [], _∷_}
-use mathlib.Core.Option.{Option, none, some}
-use Prim.Native.Nat.{ℕ, _+_, _*_, _-_, _/_, _≤_, _<_, min}
+use Prim.Native.Nat.{ℕ, _+_, _*_, _-_, _≤_, _<_, min}
 use native.Mathlib.Omega.{arith}
-use borrow.Author.Tests.{le-leb, lt-leb, leb-true, leb-false, eqb-true}
-use lib.Dec.{T, leb, eqb}
+use borrow.Author.Tests.{le-leb, lt-leb}
+use lib.Dec.{leb, eqb}
 use lib.ListN.{length, take, drop, getD, drop-of-length-le}
 use Rattle.sections.proofs.AddressLaws.{both-true}
-use Rattle.vertices.specs.Runs.{numbers}
 use Rattle.halls.specs.Every.{every, sumOf}
-use Rattle.halls.specs.Checks.{sameNumbers, mappingMatches, geometryCount, countsWithinLimits, imageWithinLimit, everyGeometry, verdict, judged, hallVerdict}
+use Rattle.halls.specs.Checks.{sameNumbers, mappingMatches, geometryCount, countsWithinLimits, imageWithinLimit, verdict, judged, hallVerdict}
 use Rattle.halls.specs.Hall.{Hall}
-use Rattle.halls.specs.ImageSize.{padded, geometrySize, modelSize, imageSize}
+use Rattle.halls.specs.ImageSize.{geometrySize, imageSize}
 use Rattle.halls.specs.Judging.{passed}
-use Rattle.halls.specs.Parsing.{recordsLength, whole, follows, mayEnd, ordered, exact, geometriesIn, modelsIn, structured, parse}
+use Rattle.halls.specs.Parsing.{recordsLength, whole, follows, mayEnd, ordered, geometriesIn, modelsIn, structured, parse}
 use Rattle.halls.specs.Records.{Record, records}
-use Rattle.halls.specs.Walk.{wellFrom, isEmpty, failing, lowestFrom, kindCount, units, unitsFrom, leftOf, beforeOf, Walked, verdictOf, limitsLowest, summaryOf, Counted, Examined, ExaminedFirst}
-use Rattle.halls.specs.declared.check.Verdict.{Verdict}
+use Rattle.halls.specs.Walk.{wellFrom, failing, lowestFrom, kindCount, units, unitsFrom, leftOf, beforeOf, Walked, verdictOf, limitsLowest, summaryOf, Examined, ExaminedFirst}
 use Rattle.halls.specs.declared.check.Verdict.the-variants.{Sound, Fails}
 use Rattle.halls.specs.declared.walk.Summary.{Summary}
 use Rattle.halls.specs.declared.walk.Tally.{Tally}

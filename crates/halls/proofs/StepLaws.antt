@@ -1,6 +1,5 @@
 -- What a call comes to, case by case: refused on the old hall, before the result, on the result or for its length, or done.
 use mathlib.Core.Path.{_≡_, refl, sym, ap, _∙_, subst}
-use mathlib.Core.Bool.{Bool, true, false, cond}
 use mathlib.Core.List.{List}
 use mathlib.Core.Option.{Option, none, some}
 use Prim.Native.Nat.{ℕ, _≤_, _<_}
@@ -10,20 +9,19 @@ use lib.Dec.{leb}
 use lib.ListN.{length, take, getD, length-take}
 use Rattle.sections.proofs.EditLaws.{take-below}
 use Rattle.halls.specs.Calls.{Call, proposed}
-use Rattle.halls.specs.Checks.{require, verdict, judged, hallVerdict}
+use Rattle.halls.specs.Checks.{verdict, judged, hallVerdict}
 use Rattle.halls.specs.Hall.{Hall, HallInWidth, hallBytes}
 use Rattle.halls.specs.HallRecords.{hallRecords}
 use Rattle.halls.specs.Old.{hallIn, Old}
 use Rattle.halls.specs.Parsing.{parse}
-use Rattle.halls.specs.Reading.{Reading, refused, read}
+use Rattle.halls.specs.Reading.{refused, read}
 use Rattle.halls.specs.Records.{records}
-use Rattle.halls.specs.State.{State, hallOf, stateOf, stateBytes}
-use Rattle.halls.specs.Step.{Step, stays, becomes, ifSound, settled, stateIn, stepIn, rewritten, stepAnswer, stepBytes, Stepped}
+use Rattle.halls.specs.State.{stateOf, stateBytes}
+use Rattle.halls.specs.Step.{Step, stays, becomes, settled, stateIn, stepIn, rewritten, stepAnswer, stepBytes, Stepped}
 use Rattle.halls.specs.declared.answer.Answer.{Answer}
 use Rattle.halls.specs.declared.answer.Answer.the-variants.{Accepted, Refused}
-use Rattle.halls.specs.declared.check.Verdict.{Verdict}
 use Rattle.halls.specs.declared.check.Verdict.the-variants.{Sound, Fails}
-use Rattle.halls.proofs.ParsingLaws.{ReadHall, hall-parsed}
+use Rattle.halls.proofs.ParsingLaws.{hall-parsed}
 use Rattle.halls.proofs.SoundLaws.{required}
 use Rattle.halls.proofs.StateLaws.{hall-of-state}
 

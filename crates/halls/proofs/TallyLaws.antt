@@ -1,12 +1,12 @@
 -- What a walk adds up is what the verdict asks: the lowest check that fails anywhere, the counts, and the image's size.
 use mathlib.Core.Path.{_≡_, refl, sym, ap, _∙_}
 use mathlib.Core.Bool.{Bool, true, false, cond, _&&_, and-true}
-use mathlib.Core.List.{List, [], _∷_, map}
+use mathlib.Core.List.{List, [], _∷_}
 use Prim.{Unit}
-use Prim.Native.Nat.{ℕ, zero, suc, _+_, _*_, _-_, _/_, _≤_, _<_, min}
+use Prim.Native.Nat.{ℕ, suc, _+_, _*_, _-_, _/_, _≤_, _<_, min}
 use native.Mathlib.Omega.{arith}
-use borrow.Author.Tests.{eq-eqb, ne-eqb, eqb-true, lt-leb}
-use lib.Dec.{eqb, leb}
+use borrow.Author.Tests.{ne-eqb, eqb-true, lt-leb}
+use lib.Dec.{eqb}
 use lib.ListN.{length, drop, length-drop}
 use Rattle.sections.proofs.AddressLaws.{both-true}
 use Rattle.vertices.specs.Runs.{numbers}
@@ -14,15 +14,15 @@ use Rattle.vertices.proofs.RunLaws.{numbers-length}
 use Rattle.halls.specs.Every.{every, sumOf}
 use Rattle.halls.specs.Checks.{vertexBytesExact, sameNumbers, shaderIds, mappingMatches, geometryCount, countsWithinLimits, stridesAgree, componentsInside, vertexCountsAgree, indexCountsAgree, indicesInRange, imageWithinLimit, require, everyGeometry, verdict}
 use Rattle.halls.specs.Hall.{FullGeometry, FullModel, Hall}
-use Rattle.halls.specs.ImageSize.{padded, geometrySize, modelSize, imageSize}
+use Rattle.halls.specs.ImageSize.{padded, geometrySize, modelSize}
 use Rattle.halls.specs.Judging.{passed, lowestOf}
 use Rattle.halls.specs.Parsing.{mappingCount, modelIn, geometriesIn, modelsIn, geometryIn, bodyAt}
 use Rattle.halls.specs.Records.{Record}
 use Rattle.halls.specs.Triangles.{heldCount}
-use Rattle.halls.specs.Walk.{leads, rest, isEmpty, failing, lowestFrom, kindCount, units, modelUnits, geometryUnits, unitsFrom, verdictOf, geometryOf}
+use Rattle.halls.specs.Walk.{leads, rest, isEmpty, failing, lowestFrom, kindCount, modelUnits, geometryUnits, unitsFrom, verdictOf, geometryOf}
 use Rattle.halls.proofs.SoundLaws.{same-numbers}
 use Rattle.halls.specs.declared.check.Verdict.{Verdict}
-use Rattle.halls.specs.declared.check.Verdict.the-variants.{Sound, Fails}
+use Rattle.halls.specs.declared.check.Verdict.the-variants.{Sound}
 
 -- ---- the lowest of some checks
 

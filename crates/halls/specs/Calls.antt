@@ -16,7 +16,7 @@ use Rattle.halls.specs.List.{Vertices, Indices}
 use Rattle.halls.specs.List as list
 use Rattle.halls.specs.Places.{item}
 use Rattle.halls.specs.Reading.{Reading, refused, read, need, andThen, readList}
-use Rattle.halls.specs.State.{Geometry, Model, State, vertexCount, fullGeometry, fullModel, hallOf}
+use Rattle.halls.specs.State.{Geometry, Model, State, vertexCount, fullModel, hallOf}
 
 -- an added geometry, as it is given
 pub record Given : Type 0 where

@@ -3,7 +3,7 @@ use mathlib.Core.List.{List, [], _∷_, _++_}
 use Prim.Native.Nat.{ℕ}
 use Rattle.vertices.specs.Declaration.{declarationBytes}
 use Rattle.halls.specs.List.{modelBody, geometryBody, verticesBody, indicesBody}
-use Rattle.halls.specs.Hall.{FullGeometry, FullModel, Hall, listedGeometry, listedModel}
+use Rattle.halls.specs.Hall.{FullGeometry, Hall, listedGeometry, listedModel}
 use Rattle.halls.specs.Records.{Record}
 
 abbrev pub ofKind : ℕ → List ℕ → Record

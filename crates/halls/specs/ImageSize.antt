@@ -1,5 +1,4 @@
 -- How long the image of a hall is (document 01, "Images"): each part starts at a multiple of 16, and the tail is filled up to one.
-use mathlib.Core.List.{List}
 use Prim.Native.Nat.{ℕ, _+_, _*_, _/_}
 use lib.ListN.{length}
 use Rattle.halls.specs.Every.{sumOf}

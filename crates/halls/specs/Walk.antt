@@ -2,7 +2,6 @@
 use mathlib.Core.Path.{_≡_}
 use mathlib.Core.Bool.{Bool, true, false, cond, _&&_}
 use mathlib.Core.List.{List, [], _∷_}
-use mathlib.Core.Option.{Option, some}
 use Prim.Native.Nat.{ℕ, _+_, _*_, _-_, _/_, _≤_, _<_, min}
 use lib.Dec.{eqb, leb}
 use lib.ListN.{length, take, drop}

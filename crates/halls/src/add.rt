@@ -1,5 +1,4 @@
 // Models and geometries added at the end of a hall.
-ghost use mathlib.Core.Path.{_≡_};
 ghost use Rattle.halls.specs.Calls.{addModel};
 ghost use Rattle.halls.specs.Step.{Stepped};
 ghost use Rattle.halls.specs.Old.{Old, hallIn};

@@ -1,7 +1,7 @@
 // What stands at the front of a hall's bytes.
 ghost use mathlib.Core.Path.{_≡_};
 ghost use Prim.Native.Nat.{_-_, _≤_, _^_};
-ghost use Rattle.halls.specs.Judging.{hasRecord, contentAt, entriesAt};
+ghost use Rattle.halls.specs.Judging.{hasRecord, contentAt};
 ghost use Rattle.halls.specs.Walk.{frontOf};
 use sections::ends_inside;
 use sections::u16_le;

@@ -1,6 +1,6 @@
 // One pass over a hall's list: a record that is not a hall's ends it, otherwise the lowest check that fails is carried.
 ghost use mathlib.Core.Path.{_≡_};
-ghost use Prim.Native.Nat.{_+_, _*_, _-_, _<_, _≤_, _^_, min};
+ghost use Prim.Native.Nat.{_+_, _*_, _-_, _<_, _≤_, min};
 ghost use lib.Dec.{eqb};
 ghost use lib.ListN.{length, drop};
 ghost use Rattle.vertices.specs.Runs.{numbers};

@@ -1,6 +1,5 @@
 -- The test is the definition's.
 use borrow.Author.Tests.{le-leb, lt-leb}
-use borrow.Author.Needs.{needs}
 use Rattle.halls.proofs.check.verdict_of.Statement.{statement}
 use Rattle.halls.proofs.check.verdict_of.Tie as tie
 

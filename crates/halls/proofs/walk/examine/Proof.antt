@@ -1,6 +1,6 @@
 -- Each turn keeps what the walk knows, and its ends say what the whole list comes to.
-use mathlib.Core.Path.{_≡_, _∙_, ap, subst, sym}
-use Prim.Native.Nat.{ℕ, _-_}
+use mathlib.Core.Path.{_∙_, subst, sym}
+use Prim.Native.Nat.{_-_}
 use native.Mathlib.Omega.{arith}
 use borrow.Author.Needs.{needs}
 use lib.ListN.{length}

@@ -1,5 +1,5 @@
 -- What stands at the front decides the turn.
-use mathlib.Core.Path.{_≡_, sym, ap, _∙_}
+use mathlib.Core.Path.{sym, ap, _∙_}
 use borrow.Author.Needs.{needs}
 use Rattle.halls.specs.Walk.{frontOf}
 use Rattle.halls.proofs.WalkLaws.{broken-stops, slice-rest}

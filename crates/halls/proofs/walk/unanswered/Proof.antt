@@ -1,6 +1,5 @@
 -- The test is the definition's.
 use borrow.Author.Tests.{eq-eqb, ne-eqb}
-use borrow.Author.Needs.{needs}
 use Rattle.halls.proofs.walk.unanswered.Statement.{statement}
 use Rattle.halls.proofs.walk.unanswered.Tie as tie
 
