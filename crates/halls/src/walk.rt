@@ -44,7 +44,7 @@ fn next_turn(list: &[u8], t: Tally) -> Turn
 
 // Its part of the image: its block, and for each entry a pointer and a two-byte number.
 fn pass_model(list: &[u8], t: Tally, entries: usize) -> Turn
-    requires { ⌜ (Walked (now list) t) × (Model entries ≡ frontOf (drop (t .at) (now list))) ⌝ }
+    requires { ⌜ (Walked (now list) t) × (Model entries ≡ frontOf (drop (t .at) (now list))) × (t .at + 12 + 2 * entries ≤ length (now list)) ⌝ }
     ensures { λ r. ⌜ Turned (now (list .entry)) t r ⌝ }
 {
     let lowest = lower(t.lowest, unanswered(t.left));
@@ -61,7 +61,7 @@ fn pass_model(list: &[u8], t: Tally, entries: usize) -> Turn
 
 // A geometry before any model is not a hall's. Its part of the image: blocks and declaration, vertex bytes, two-byte indices.
 fn pass_geometry(list: &[u8], t: Tally, content: usize, held: usize) -> Turn
-    requires { ⌜ (Walked (now list) t) × (Geometry content held ≡ frontOf (drop (t .at) (now list))) ⌝ }
+    requires { ⌜ (Walked (now list) t) × (Geometry content held ≡ frontOf (drop (t .at) (now list))) × (t .at + 65 + content + 4 * held ≤ length (now list)) ⌝ }
     ensures { λ r. ⌜ Turned (now (list .entry)) t r ⌝ }
 {
     if t.models == 0 {

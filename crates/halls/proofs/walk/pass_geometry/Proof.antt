@@ -4,7 +4,7 @@ use mathlib.Core.List.{List}
 use Prim.Native.Nat.{ℕ}
 use native.Mathlib.Omega.{arith}
 use Rattle.halls.specs.Judging.{lowestOf, frontGeometry}
-use Rattle.halls.proofs.WalkLaws.{geometry-front, geometry-fits, geometry-turned, geometry-stops, slice-rest}
+use Rattle.halls.proofs.WalkLaws.{geometry-front, geometry-turned, geometry-stops, slice-rest}
 use borrow.Author.Needs.{needs}
 use Rattle.halls.proofs.walk.pass_geometry.Statement.{statement}
 use Rattle.halls.proofs.walk.pass_geometry.Tie as tie
@@ -18,22 +18,22 @@ pass-geometry-spec =
     (λ c. search needs)
     (λ c. search needs)
     (λ c κs. let start = c .before .before .before .before in rw (slice-rest (start .args .list .now) (start .args .t .at)) (geometry-front _ _ _ (start .pre .1)))
-    (λ c. let start = c .before .before .before .before .before in let fits = geometry-fits _ _ (start .pre .0) _ _ (start .pre .1) in omega (arith, fits, start .pre .0))
-    (λ c κs. search needs)
-    (λ c κs. let start = c .before .before .before .before .before .before in let fits = geometry-fits _ _ (start .pre .0) _ _ (start .pre .1) in omega (arith, fits, start .pre .0))
+    (λ c. search needs)
     (λ c κs. search needs)
     (λ c κs. search needs)
-    (λ c. let start = c .before .before .before .before .before .before .before .before .before in let fits = geometry-fits _ _ (start .pre .0) _ _ (start .pre .1) in omega (arith, fits, start .pre .0))
-    (λ c. let start = c .before .before .before .before .before .before .before .before .before in let fits = geometry-fits _ _ (start .pre .0) _ _ (start .pre .1) in omega (arith, fits, start .pre .0))
-    (λ c. let start = c .before .before .before .before .before .before .before .before .before in let fits = geometry-fits _ _ (start .pre .0) _ _ (start .pre .1) in omega (arith, fits, start .pre .0))
-    (λ c. let start = c .before .before .before .before .before .before .before .before .before in let fits = geometry-fits _ _ (start .pre .0) _ _ (start .pre .1) in omega (arith, fits, start .pre .0))
-    (λ c. let start = c .before .before .before .before .before .before .before .before .before .before in let fits = geometry-fits _ _ (start .pre .0) _ _ (start .pre .1) in omega (arith, fits, start .pre .0))
-    (λ c. let start = c .before .before .before .before .before .before .before .before .before .before .before in let fits = geometry-fits _ _ (start .pre .0) _ _ (start .pre .1) in omega (arith, fits, start .pre .0))
-    (λ c. let start = c .before .before .before .before .before .before .before .before .before .before .before in let fits = geometry-fits _ _ (start .pre .0) _ _ (start .pre .1) in omega (arith, fits, start .pre .0))
-    (λ c. let start = c .before .before .before .before .before .before .before .before .before .before .before in let fits = geometry-fits _ _ (start .pre .0) _ _ (start .pre .1) in omega (arith, fits, start .pre .0))
-    (λ c. let start = c .before .before .before .before .before .before .before .before .before .before .before in let fits = geometry-fits _ _ (start .pre .0) _ _ (start .pre .1) in omega (arith, fits, start .pre .0))
-    (λ c. let start = c .before .before .before .before .before .before .before .before .before .before .before in let fits = geometry-fits _ _ (start .pre .0) _ _ (start .pre .1) in omega (arith, fits, start .pre .0))
-    (λ c. let start = c .before .before .before .before .before .before .before .before .before .before .before .before in let fits = geometry-fits _ _ (start .pre .0) _ _ (start .pre .1) in omega (arith, fits, start .pre .0))
+    (λ c κs. search needs)
+    (λ c κs. search needs)
+    (λ c. search needs)
+    (λ c. search needs)
+    (λ c. search needs)
+    (λ c. search needs)
+    (λ c. search needs)
+    (λ c. search needs)
+    (λ c. search needs)
+    (λ c. search needs)
+    (λ c. search needs)
+    (λ c. search needs)
+    (λ c. search needs)
     (λ c κs. search needs)
     (λ c.
     let start = c .before .before .before .before .before .before .before .before .before .before .before .before .before in

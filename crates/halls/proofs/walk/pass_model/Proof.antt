@@ -1,7 +1,7 @@
 -- A model's record is passed: `model-turned`.
 use mathlib.Core.Path.{_∙_}
 use native.Mathlib.Omega.{arith}
-use Rattle.halls.proofs.WalkLaws.{model-fits, model-turned}
+use Rattle.halls.proofs.WalkLaws.{model-turned}
 use borrow.Author.Needs.{needs}
 use Rattle.halls.proofs.walk.pass_model.Statement.{statement}
 use Rattle.halls.proofs.walk.pass_model.Tie as tie
@@ -12,16 +12,16 @@ pass-model-spec =
     (tie.spec
     (λ c κs. search needs)
     (λ c κs. search needs)
-    (λ c. let start = c .before .before .before .before in let fits = model-fits _ _ (start .pre .0) _ (start .pre .1) in omega (arith, fits, start .pre .0))
-    (λ c. let start = c .before .before .before .before in let fits = model-fits _ _ (start .pre .0) _ (start .pre .1) in omega (arith, fits, start .pre .0))
-    (λ c. let start = c .before .before .before .before in let fits = model-fits _ _ (start .pre .0) _ (start .pre .1) in omega (arith, fits, start .pre .0))
-    (λ c. let start = c .before .before .before .before .before in let fits = model-fits _ _ (start .pre .0) _ (start .pre .1) in omega (arith, fits, start .pre .0))
-    (λ c. let start = c .before .before .before .before .before .before in let fits = model-fits _ _ (start .pre .0) _ (start .pre .1) in omega (arith, fits, start .pre .0))
-    (λ c. let start = c .before .before .before .before .before .before in let fits = model-fits _ _ (start .pre .0) _ (start .pre .1) in omega (arith, fits, start .pre .0))
-    (λ c. let start = c .before .before .before .before .before .before in let fits = model-fits _ _ (start .pre .0) _ (start .pre .1) in omega (arith, fits, start .pre .0))
-    (λ c. let start = c .before .before .before .before .before .before in let fits = model-fits _ _ (start .pre .0) _ (start .pre .1) in omega (arith, fits, start .pre .0))
-    (λ c. let start = c .before .before .before .before .before .before in let fits = model-fits _ _ (start .pre .0) _ (start .pre .1) in omega (arith, fits, start .pre .0))
-    (λ c. let start = c .before .before .before .before .before .before .before in let fits = model-fits _ _ (start .pre .0) _ (start .pre .1) in omega (arith, fits, start .pre .0))
+    (λ c. search needs)
+    (λ c. search needs)
+    (λ c. search needs)
+    (λ c. search needs)
+    (λ c. search needs)
+    (λ c. search needs)
+    (λ c. search needs)
+    (λ c. search needs)
+    (λ c. search needs)
+    (λ c. search needs)
     (λ c.
     let start = c .before .before .before .before .before .before .before in
     let missing = c .before .before .before .before .before .unanswered .ensures in
