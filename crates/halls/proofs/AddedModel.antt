@@ -17,7 +17,6 @@ use Rattle.halls.specs.Every.{every, sumOf}
 use Rattle.halls.specs.Hall.{FullModel, Hall, hallBytes}
 use Rattle.halls.specs.ImageSize.{modelSize, imageSize}
 use Rattle.halls.specs.List.{each, modelNumbers, modelRecord, writeModel}
-use Rattle.halls.specs.Old.{hallIn, Old}
 use Rattle.halls.specs.Reading.{read}
 use Rattle.halls.specs.State.{State, fullModel, hallOf}
 use Rattle.halls.specs.Step.{stateIn, rewritten, Stepped}
@@ -31,7 +30,7 @@ use Rattle.halls.proofs.RewrittenLaws.{rewritten-start, rewritten-more}
 use Rattle.halls.proofs.ScanLaws.{every-append}
 use Rattle.halls.proofs.SoundEdits.{sum-append, hall-bytes-append}
 use Rattle.halls.proofs.SoundLaws.{verdict-sound}
-use Rattle.halls.proofs.StepLaws.{stays-judged, stays-long, becomes-new}
+use Rattle.halls.proofs.StepLaws.{hallIn, Old, stays-judged, stays-long, becomes-new}
 
 hall-append : (s t : State) → hallOf (s ++ t) ≡ hallOf s ++ hallOf t
 unfolding hallOf

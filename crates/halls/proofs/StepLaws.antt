@@ -12,11 +12,10 @@ use Rattle.halls.specs.Calls.{Call, proposed}
 use Rattle.halls.specs.Checks.{verdict, judged, hallVerdict}
 use Rattle.halls.specs.Hall.{Hall, HallInWidth, hallBytes}
 use Rattle.halls.specs.HallRecords.{hallRecords}
-use Rattle.halls.specs.Old.{hallIn, Old}
-use Rattle.halls.specs.Parsing.{parse}
+use Rattle.halls.specs.Parsing.{modelsIn, parse}
 use Rattle.halls.specs.Reading.{refused, read}
 use Rattle.halls.specs.Records.{records}
-use Rattle.halls.specs.State.{stateOf, stateBytes}
+use Rattle.halls.specs.State.{hallOf, stateOf, stateBytes}
 use Rattle.halls.specs.Step.{Step, stays, becomes, settled, stateIn, stepIn, rewritten, stepAnswer, stepBytes, Stepped}
 use Rattle.halls.specs.declared.answer.Answer.{Answer}
 use Rattle.halls.specs.declared.answer.Answer.the-variants.{Accepted, Refused}
@@ -26,6 +25,19 @@ use Rattle.halls.proofs.SoundLaws.{required}
 use Rattle.halls.proofs.StateLaws.{hall-of-state}
 
 -- ---- a sound hall in the first n bytes
+
+abbrev pub hallIn : List ℕ → ℕ → Hall
+hallIn b n = modelsIn (records (take n b))
+
+pub record Old (b : List ℕ) (n : ℕ) : Type 0 where
+  pub within : n ≤ length b
+  pub verdict-is : hallVerdict b n ≡ Sound
+  pub sound : verdict (hallIn b n) ≡ Sound
+  pub back : hallOf (stateIn b n) ≡ hallIn b n
+  pub bytes-are : hallBytes (hallIn b n) ≡ take n b
+  pub long : length (hallBytes (hallIn b n)) ≡ n
+  pub records-are : hallRecords (hallIn b n) ≡ records (take n b)
+  pub in-width : HallInWidth (hallIn b n)
 
 -- by what was parsed
 parsed-old : (b : List ℕ) (n : ℕ) → ((i : ℕ) → getD b i 0 < 256) → n ≤ length b → hallVerdict b n ≡ Sound → (o : Option Hall) → parse (take n b) ≡ o → judged o ≡ Sound → Old b n

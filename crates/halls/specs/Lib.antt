@@ -20,4 +20,3 @@ pub mod Places
 pub mod Seeking
 pub mod Calls
 pub mod Step
-pub mod Old

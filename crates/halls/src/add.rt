@@ -1,8 +1,14 @@
 // Models and geometries added at the end of a hall.
+ghost use mathlib.Core.Path.{_≡_};
+ghost use Prim.Native.Nat.{_≤_};
+ghost use lib.ListN.{length, take};
 ghost use Rattle.halls.specs.Calls.{addModel};
+ghost use Rattle.halls.specs.Checks.{hallVerdict};
+ghost use Rattle.halls.specs.Parsing.{modelsIn};
+ghost use Rattle.halls.specs.Records.{records};
 ghost use Rattle.halls.specs.Step.{Stepped};
-ghost use Rattle.halls.specs.Old.{Old, hallIn};
 ghost use Rattle.halls.specs.Walk.{Counted};
+ghost use Rattle.halls.specs.declared.check.Verdict.the-variants.{Sound};
 use crate::answer::Answer;
 use crate::answer::refused;
 use crate::check::examine_first;
@@ -23,7 +29,7 @@ pub fn add_model(hall: &mut [u8], n: usize, binding: u32, mask: u16) -> Answer
 
 // Of the result only checks 13, 19 and 24 can fail: the model adds its block to the image and 12 bytes to the list.
 fn append_model(hall: &mut [u8], n: usize, binding: u32, mask: u16, found: Summary) -> Answer
-    requires { ⌜ (Old (now hall) n) × (Counted (hallIn (now hall) n) found) ⌝ }
+    requires { ⌜ (hallVerdict (now hall) n ≡ Sound) × (Counted (modelsIn (records (take n (now hall)))) found) × (n ≤ length (now hall)) × (found .models ≤ 256) × (found .units ≤ 4194304) ⌝ }
     ensures { λ r. ⌜ Stepped (addModel binding mask) (now (hall .entry)) n r (now (hall .exit)) ⌝ }
 {
     let lowest = limits_lowest(found.models + 1, found.geometries, found.units + 3);
