@@ -36,3 +36,4 @@ pub mod StepLaws
 pub mod RewrittenLaws
 pub mod SoundEdits
 pub mod AddedModel
+pub mod WordLaws

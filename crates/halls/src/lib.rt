@@ -16,6 +16,7 @@ mod triangles;
 mod view;
 mod walk;
 mod widen;
+mod words;
 mod write;
 
 pub use add::add_model;
