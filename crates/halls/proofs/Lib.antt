@@ -34,3 +34,4 @@ pub mod PlaceLaws
 pub mod StepLaws
 pub mod RewrittenLaws
 pub mod SoundEdits
+pub mod RemovedLaws
