@@ -135,10 +135,3 @@ verdict-inside b n h = rw (le-leb n (length b) h)
 
 pub first-inside : (b : List ℕ) (n : ℕ) (r : Summary) → n ≤ length b → Examined (take n b) r → ExaminedFirst b n r
 first-inside b n r h x = record { verdict = x .verdict ∙ sym (verdict-inside b n h); counted = λ z. x .counted (sym (verdict-inside b n h) ∙ z) }
-
--- as a call asks
-pub first-fails : (b : List ℕ) (n : ℕ) (r : Summary) → ExaminedFirst b n r → r .lowest < 20 → hallVerdict b n ≡ Fails (r .lowest)
-first-fails b n r x h = sym (x .verdict) ∙ rw (lt-leb 20 (r .lowest) h)
-
-pub first-sound : (b : List ℕ) (n : ℕ) (r : Summary) → ExaminedFirst b n r → 20 ≤ r .lowest → hallVerdict b n ≡ Sound
-first-sound b n r x h = sym (x .verdict) ∙ rw (le-leb 20 (r .lowest) h)

@@ -37,3 +37,4 @@ pub mod RewrittenLaws
 pub mod SoundEdits
 pub mod AddedModel
 pub mod WordLaws
+pub mod RemovedLaws

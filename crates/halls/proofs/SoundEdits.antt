@@ -2,7 +2,7 @@
 use mathlib.Core.Path.{_≡_, refl, sym, ap, _∙_, subst}
 use mathlib.Core.Bool.{Bool, true}
 use mathlib.Core.List.{List, [], _∷_, _++_, map, map-append}
-use mathlib.Core.Option.{some, Option·map}
+use mathlib.Core.Option.{none, some, Option·map}
 use Prim.Native.Nat.{ℕ, zero, suc, _+_, _*_, _≤_}
 use native.Mathlib.Omega.{arith}
 use borrow.Author.Tests.{le-leb, leb-true, eq-eqb}
@@ -17,7 +17,7 @@ use Rattle.halls.specs.Hall.{FullGeometry, FullModel, Hall, listedModel,
 use Rattle.halls.specs.ImageSize.{modelSize, imageSize}
 use Rattle.halls.specs.List.{writeModel}
 use Rattle.halls.specs.Places.{item}
-use Rattle.halls.specs.State.{Model, State, fullModel, hallOf}
+use Rattle.halls.specs.State.{Model, State, fullModel, hallOf, modelState, stateOf}
 use Rattle.halls.specs.declared.check.Verdict.the-variants.{Sound}
 use Rattle.halls.proofs.EachLaws.{each-append}
 use Rattle.halls.proofs.EveryLaws.{each-every}
@@ -31,6 +31,12 @@ module _ {A : Type 0} where
   split-item (suc i) [] x e = let z : _≡_ {A = ℕ} 0 1 = cc in absurd (omega arith)
   split-item zero (y ∷ ys) x e = let same : y ≡ x = cc in ap (λ (a : A). a ∷ ys) same
   split-item (suc i) (y ∷ ys) x e = ap (λ (l : List A). y ∷ l) (split-item i ys x e)
+
+  pub take-past : (i : ℕ) (xs : List A) → item i xs ≡ none → take i xs ≡ xs
+  take-past zero [] e = refl
+  take-past (suc i) [] e = refl
+  take-past zero (x ∷ xs) e = let z : _≡_ {A = ℕ} 0 1 = cc in absurd (omega arith)
+  take-past (suc i) (x ∷ xs) e = ap (λ (l : List A). x ∷ l) (take-past i xs e)
 
   -- it stands within the list
   pub item-within : (i : ℕ) (xs : List A) (x : A) → item i xs ≡ some x → suc i ≤ length xs
@@ -131,6 +137,10 @@ module _ {A : Type 0} (f : A → ℕ) where
 pub hall-item : (i : ℕ) (s : State) → item i (hallOf s) ≡ Option·map fullModel (item i s)
 unfolding hallOf
 hall-item i s = item-map fullModel i s
+
+pub state-item : (i : ℕ) (h : Hall) → item i (stateOf h) ≡ Option·map modelState (item i h)
+unfolding stateOf
+state-item i h = item-map modelState i h
 
 pub hall-without : (i : ℕ) (s : State) → hallOf (without i s) ≡ without i (hallOf s)
 unfolding hallOf

@@ -17,10 +17,13 @@ use Rattle.halls.specs.Reading.{refused, read}
 use Rattle.halls.specs.Records.{records}
 use Rattle.halls.specs.State.{hallOf, stateOf, stateBytes}
 use Rattle.halls.specs.Step.{Step, stays, becomes, settled, stateIn, stepIn, rewritten, stepAnswer, stepBytes, Stepped}
+use Rattle.halls.specs.Judging.{passed}
+use Rattle.halls.specs.Walk.{ExaminedFirst}
 use Rattle.halls.specs.declared.answer.Answer.{Answer}
 use Rattle.halls.specs.declared.answer.Answer.the-variants.{Accepted, Refused}
 use Rattle.halls.specs.declared.check.Verdict.the-variants.{Sound, Fails}
 use Rattle.halls.proofs.ParsingLaws.{hall-parsed}
+use Rattle.halls.specs.declared.walk.Summary.{Summary}
 use Rattle.halls.proofs.SoundLaws.{required}
 use Rattle.halls.proofs.StateLaws.{hall-of-state}
 
@@ -62,6 +65,14 @@ unfolding hallVerdict
 old b n below e =
     let r = required 11 (leb n (length b)) (judged (parse (take n b))) e in
     parsed-old b n below (leb-true n (length b) (r .0)) e (parse (take n b)) refl (r .1)
+
+-- ---- what the walk found
+
+pub lowest-fails : (b : List ℕ) (n : ℕ) (r : Summary) → ExaminedFirst b n r → r .lowest < 20 → hallVerdict b n ≡ Fails (r .lowest)
+lowest-fails b n r x h = sym (x .verdict) ∙ rw (lt-leb passed (r .lowest) h)
+
+pub lowest-sound : (b : List ℕ) (n : ℕ) (r : Summary) → ExaminedFirst b n r → 20 ≤ r .lowest → hallVerdict b n ≡ Sound
+lowest-sound b n r x h = sym (x .verdict) ∙ rw (le-leb passed (r .lowest) h)
 
 -- ---- one call
 

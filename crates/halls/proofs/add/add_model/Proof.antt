@@ -1,8 +1,7 @@
 -- The check of the old hall decides; the rest is the model's.
 use borrow.Author.Needs.{needs}
 use Rattle.halls.proofs.AddedModel.{added-few, added-small}
-use Rattle.halls.proofs.ExaminedLaws.{first-fails, first-sound}
-use Rattle.halls.proofs.StepLaws.{old, stays-old, answered-as}
+use Rattle.halls.proofs.StepLaws.{lowest-fails, lowest-sound, old, stays-old, answered-as}
 use Rattle.halls.proofs.add.add_model.Statement.{statement}
 use Rattle.halls.proofs.add.add_model.Tie as tie
 
@@ -13,10 +12,10 @@ add-model-spec =
     (λ c κs. search needs)
     (λ c κs. search needs)
     (λ c. search needs)
-    (λ c. answered-as (c .refused .ensures) (stays-old _ _ _ _ (first-fails _ _ _ (c .before .before .before .examine-first .ensures) (c .before .if1 .taken))))
+    (λ c. answered-as (c .refused .ensures) (stays-old _ _ _ _ (lowest-fails _ _ _ (c .before .before .before .examine-first .ensures) (c .before .if1 .taken))))
     (λ c κs.
     let found = c .before .before .before .examine-first .ensures in
-    let sound = first-sound _ _ _ found (c .before .if1 .left) in
+    let sound = lowest-sound _ _ _ found (c .before .if1 .left) in
     let hall = old _ _ (λ i. c .before .before .before .before .before .slice-known .given i .fits) sound in
     let counted = found .counted sound in
     (sound, counted, hall .within, added-few _ _ 0 0 hall _ counted, added-small _ _ 0 0 hall _ counted))
