@@ -35,3 +35,6 @@ pub mod StepLaws
 pub mod RewrittenLaws
 pub mod SoundEdits
 pub mod RemovedLaws
+pub mod ChangedLaws
+pub mod SpotLaws
+pub mod AttributeSet

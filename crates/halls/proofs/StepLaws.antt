@@ -119,3 +119,7 @@ module _ (c : Call) (b : List ℕ) (n : ℕ) where
               answer = ap {B = Answer} Accepted (l ∙ ap length (sym new-bytes)) ∙ s .answer;
               bytes = w ∙ ap (rewritten b n) (sym new-bytes) ∙ s .bytes;
             }
+
+-- the same of an answer that is known by an equation
+pub answered : {c : Call} {b : List ℕ} {n : ℕ} {r r′ : Answer} {t : List ℕ} → r ≡ r′ → Stepped c b n r′ t → Stepped c b n r t
+answered e s = record { answer = e ∙ s .answer; bytes = s .bytes }

@@ -1,5 +1,6 @@
 // Halls: the list of a drawable's models and geometries.
 mod answer;
+mod attribute;
 mod check;
 mod find;
 mod front;
@@ -20,6 +21,7 @@ mod write;
 
 pub use answer::Answer;
 pub use answer::Refusal;
+pub use attribute::set_attribute;
 pub use check::Verdict;
 pub use check::hall_check;
 pub use list::hall_list;
