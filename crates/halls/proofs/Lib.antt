@@ -38,3 +38,6 @@ pub mod SoundEdits
 pub mod AddedModel
 pub mod WordLaws
 pub mod RemovedLaws
+pub mod ChangedLaws
+pub mod SpotLaws
+pub mod AttributeSet

@@ -20,7 +20,7 @@ and-assoc : (a b c : Bool) → (a && (b && c)) ≡ ((a && b) && c)
 and-assoc true b c = refl
 and-assoc false b c = refl
 
-and-true : (b : Bool) → (b && true) ≡ b
+pub and-true : (b : Bool) → (b && true) ≡ b
 and-true true = refl
 and-true false = refl
 

@@ -118,6 +118,6 @@ module _ (c : Call) (b : List ℕ) (n : ℕ) where
               bytes = w ∙ ap (rewritten b n) (sym new-bytes) ∙ s .bytes;
             }
 
--- with the answer that a function was handed
-pub answered-as : {c : Call} {b : List ℕ} {n : ℕ} {t : List ℕ} {r r′ : Answer} → r ≡ r′ → Stepped c b n r′ t → Stepped c b n r t
-answered-as e s = record { answer = e ∙ s .answer; bytes = s .bytes }
+-- the same of an answer that is known by an equation
+pub answered : {c : Call} {b : List ℕ} {n : ℕ} {r r′ : Answer} {t : List ℕ} → r ≡ r′ → Stepped c b n r′ t → Stepped c b n r t
+answered e s = record { answer = e ∙ s .answer; bytes = s .bytes }

@@ -1,10 +1,13 @@
 -- Where a hall's records begin among the bytes of its list.
+use mathlib.Core.Path.{_≡_}
 use mathlib.Core.List.{List, [], _∷_, map}
 use mathlib.Core.Option.{Option, none, some, Option·map}
 use Prim.Native.Nat.{ℕ, _+_, _*_}
 use lib.ListN.{length, take, drop}
 use Rattle.halls.specs.List.{writeGeometries}
 use Rattle.halls.specs.Hall.{FullGeometry, FullModel, Hall, listedGeometry, hallBytes}
+use Rattle.halls.specs.Parsing.{modelsIn}
+use Rattle.halls.specs.Records.{records}
 use Rattle.halls.specs.declared.find.GeometryPlace.{GeometryPlace}
 use Rattle.halls.specs.declared.find.FoundModel.{FoundModel}
 use Rattle.halls.specs.declared.find.FoundModel.the-variants.{At as ModelAt, Absent as NoModel}
@@ -54,3 +57,7 @@ foundModel (some place) = ModelAt place
 abbrev pub foundGeometry : Option GeometryPlace → FoundGeometry
 foundGeometry none = NoGeometry
 foundGeometry (some places) = GeometryAt places
+
+-- geometry g of model m begins at this place in the first n bytes of a buffer
+abbrev pub GeometryIn : List ℕ → ℕ → ℕ → ℕ → ℕ → Type 0
+GeometryIn b n m g at = Option·map (λ (p : GeometryPlace). p .geometry) (geometryPlace (modelsIn (records (take n b))) m g) ≡ some at

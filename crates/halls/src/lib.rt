@@ -1,6 +1,7 @@
 // Halls: the list of a drawable's models and geometries.
 mod add;
 mod answer;
+mod attribute;
 mod check;
 mod find;
 mod front;
@@ -23,6 +24,7 @@ mod write;
 pub use add::add_model;
 pub use answer::Answer;
 pub use answer::Refusal;
+pub use attribute::set_attribute;
 pub use check::Verdict;
 pub use check::hall_check;
 pub use list::hall_list;

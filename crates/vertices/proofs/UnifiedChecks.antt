@@ -64,14 +64,14 @@ abbrev pub Within : List VertexComponent → ℕ → ℕ → Type 0
 Within cs base n = (i : ℕ) → i < length cs → 0 < (item cs i) .size → base + (item cs i) .offset + (item cs i) .size ≤ n
 
 -- each component has the size of its type
-abbrev Sized : List VertexComponent → Type 0
+abbrev pub Sized : List VertexComponent → Type 0
 Sized cs = (i : ℕ) → i < length cs → (item cs i) .size ≡ sizeOf ((item cs i) .«component_type»)
 
 sized-front : (k index nibble offset : ℕ) (cs : List VertexComponent) → Sized cs → Sized (componentAt index nibble offset ∷ cs)
 sized-front k index nibble offset cs f zero h = refl
 sized-front k index nibble offset cs f (suc i) h = f i (omega arith)
 
-components-sized : (d : VertexDeclaration) → Sized (componentsOf d)
+pub components-sized : (d : VertexDeclaration) → Sized (componentsOf d)
 unfolding componentsOf
 components-sized d = by-flags (λ k index offset cs. Sized cs) (λ index offset i h. absurd (omega arith)) (λ k index offset cs f. f) sized-front 16 0 (d .flags) (d .types) 0
 

@@ -1,7 +1,7 @@
 -- The check of the old hall decides; the rest is the model's.
 use borrow.Author.Needs.{needs}
 use Rattle.halls.proofs.AddedModel.{added-few, added-small}
-use Rattle.halls.proofs.StepLaws.{lowest-fails, lowest-sound, old, stays-old, answered-as}
+use Rattle.halls.proofs.StepLaws.{lowest-fails, lowest-sound, old, stays-old, answered}
 use Rattle.halls.proofs.add.add_model.Statement.{statement}
 use Rattle.halls.proofs.add.add_model.Tie as tie
 
@@ -12,7 +12,7 @@ add-model-spec =
     (λ c κs. search needs)
     (λ c κs. search needs)
     (λ c. search needs)
-    (λ c. answered-as (c .refused .ensures) (stays-old _ _ _ _ (lowest-fails _ _ _ (c .before .before .before .examine-first .ensures) (c .before .if1 .taken))))
+    (λ c. answered (c .refused .ensures) (stays-old _ _ _ _ (lowest-fails _ _ _ (c .before .before .before .examine-first .ensures) (c .before .if1 .taken))))
     (λ c κs.
     let found = c .before .before .before .examine-first .ensures in
     let sound = lowest-sound _ _ _ found (c .before .if1 .left) in
