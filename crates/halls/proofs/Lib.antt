@@ -31,3 +31,4 @@ pub mod ScanLaws
 pub mod JudgingLaws
 pub mod SeekLaws
 pub mod PlaceLaws
+pub mod FoundLaws

@@ -1,15 +1,19 @@
 -- Where a hall's records begin among the bytes of its list.
 use mathlib.Core.List.{List, [], _∷_, map}
-use mathlib.Core.Option.{Option, none, some, Option·map}
+use mathlib.Core.Option.{Option, none, some, Option·map, bind}
 use Prim.Native.Nat.{ℕ, _+_, _*_}
 use lib.ListN.{length, take, drop}
 use Rattle.halls.specs.List.{writeGeometries}
 use Rattle.halls.specs.Hall.{FullGeometry, FullModel, Hall, listedGeometry, hallBytes}
+use Rattle.halls.specs.Parsing.{parse}
+use Rattle.halls.specs.Checks.{hallVerdict}
+use Rattle.halls.specs.declared.check.Verdict.{Verdict}
+use Rattle.halls.specs.declared.check.Verdict.the-variants.{Sound, Fails}
 use Rattle.halls.specs.declared.find.GeometryPlace.{GeometryPlace}
 use Rattle.halls.specs.declared.find.FoundModel.{FoundModel}
-use Rattle.halls.specs.declared.find.FoundModel.the-variants.{At as ModelAt, Absent as NoModel}
+use Rattle.halls.specs.declared.find.FoundModel.the-variants.{At as ModelAt, Absent as NoModel, Refused as ModelRefused}
 use Rattle.halls.specs.declared.find.FoundGeometry.{FoundGeometry}
-use Rattle.halls.specs.declared.find.FoundGeometry.the-variants.{At as GeometryAt, Absent as NoGeometry}
+use Rattle.halls.specs.declared.find.FoundGeometry.the-variants.{At as GeometryAt, Absent as NoGeometry, Refused as GeometryRefused}
 
 -- the item with this number, counted from 0
 abbrev pub firstOf : {A : Type 0} → List A → Option A
@@ -54,3 +58,19 @@ foundModel (some place) = ModelAt place
 abbrev pub foundGeometry : Option GeometryPlace → FoundGeometry
 foundGeometry none = NoGeometry
 foundGeometry (some places) = GeometryAt places
+
+-- ---- in the first n bytes of a buffer, where they are a hall
+
+abbrev pub modelBy : Verdict → Option ℕ → FoundModel
+modelBy Sound place = foundModel place
+modelBy (Fails check) place = ModelRefused check
+
+unfoldable pub modelFound : List ℕ → ℕ → ℕ → FoundModel
+modelFound b n m = modelBy (hallVerdict b n) (bind (parse (take n b)) (λ (h : Hall). modelPlace h m))
+
+abbrev pub geometryBy : Verdict → Option GeometryPlace → FoundGeometry
+geometryBy Sound places = foundGeometry places
+geometryBy (Fails check) places = GeometryRefused check
+
+unfoldable pub geometryFound : List ℕ → ℕ → ℕ → ℕ → FoundGeometry
+geometryFound b n m g = geometryBy (hallVerdict b n) (bind (parse (take n b)) (λ (h : Hall). geometryPlace h m g))
