@@ -18,6 +18,17 @@
       8  there is no vertex with this index
       9  a component of nonzero size does not end inside the vertex data
      10  an output of the vertex functions is too short
+   and the hall check the lowest of these that fails anywhere in the hall:
+     11  the list is not whole records, each model's followed by its geometries' as kinds 2, 3, 4, 5, each record exact in length by its own
+         numbers, vertex bytes = count x stride
+     12  a model's mapping is not its geometries' shader ids
+     13  there are more than 256 models or 16,384 geometries
+     14  a layout is not 0, or the strides of geometry, declaration and vertex buffer differ
+     15  no position with a nonzero size is declared, or the components are longer than the stride
+     16  a geometry's vertices are not the count of its buffer, or not 1 to 65,535
+     17  the two index counts, the indices held and 3 x triangles differ, or are below 3
+     18  an index is not below the count of vertices
+     19  the image would have more than 67,108,864 bytes
    It accepts: the result stands in the first bytes of the output, the bytes behind it are as they were, and *size is the length of the
    result. It refuses: no byte of the output is changed, and *size is the length that the output needs for checks 7 and 10, else 0.
    *size is written in either case, and not read. */
@@ -40,6 +51,10 @@ extern "C" {
    resolves: count u32, then u32 each. A header that does not resolve has no models. Returns 0 to 7. */
 uint8_t calicofern_hall_list(const uint8_t *system, size_t system_length, const uint8_t *graphics, size_t graphics_length, uint64_t va,
                              uint8_t *list, size_t list_length, uint64_t *size);
+
+/* Whether the first n bytes of `list` are a hall. Returns 0 where they are, else the lowest number of 11 to 19 that fails; 11 where n is above the
+   list's length. */
+uint8_t calicofern_hall_check(const uint8_t *list, size_t list_length, size_t n);
 
 /* The triangles of a hall list: for each geometry its stored index count, or the indices that its kind 5 holds where that is 0, divided by 3; the
    sum, or 2^64 - 1 where the sum is above it. A record that is not whole ends the list. */
