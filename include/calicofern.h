@@ -18,17 +18,6 @@
       8  there is no vertex with this index
       9  a component of nonzero size does not end inside the vertex data
      10  an output of the vertex functions is too short
-   and the hall check the lowest of these that fails anywhere in the hall:
-     11  the list is not whole records, each model's followed by its geometries' as kinds 2, 3, 4, 5, each record exact in length by its own
-         numbers, vertex bytes = count x stride
-     12  a model's mapping is not its geometries' shader ids
-     13  there are more than 256 models or 16,384 geometries
-     14  a layout is not 0, or the strides of geometry, declaration and vertex buffer differ
-     15  no position with a nonzero size is declared, or the components are longer than the stride
-     16  a geometry's vertices are not the count of its buffer, or not 1 to 65,535
-     17  the two index counts, the indices held and 3 x triangles differ, or are below 3
-     18  an index is not below the count of vertices
-     19  the image would have more than 67,108,864 bytes
    It accepts: the result stands in the first bytes of the output, the bytes behind it are as they were, and *size is the length of the
    result. It refuses: no byte of the output is changed, and *size is the length that the output needs for checks 7 and 10, else 0.
    *size is written in either case, and not read. */
@@ -52,8 +41,17 @@ extern "C" {
 uint8_t calicofern_hall_list(const uint8_t *system, size_t system_length, const uint8_t *graphics, size_t graphics_length, uint64_t va,
                              uint8_t *list, size_t list_length, uint64_t *size);
 
-/* Whether the first n bytes of `list` are a hall. Returns 0 where they are, else the lowest number of 11 to 19 that fails; 11 where n is above the
-   list's length. */
+/* Whether the first n bytes of `list` are a hall. Returns 0 where they are, else the lowest of these numbers that fails anywhere in them:
+     11  n is within the list's length; records are whole, each model's is followed by those of its geometries as kinds 2, 3, 4, 5, and each is exact in
+         length by its own numbers, kind 4 with count x stride vertex bytes
+     12  a model's mapping is its geometries' shader ids
+     13  there are at most 256 models and 16,384 geometries
+     14  a buffer's layout is 0, and the strides of geometry, declaration and buffer are equal
+     15  a position of nonzero size is declared, and the components have at most as many bytes as the stride
+     16  a geometry's vertices are its buffer's count, 1 to 65,535
+     17  both index counts are the indices held and 3 x triangles, at least 3
+     18  each index is below the count of vertices
+     19  the hall's image has at most 67,108,864 bytes */
 uint8_t calicofern_hall_check(const uint8_t *list, size_t list_length, size_t n);
 
 /* The triangles of a hall list: for each geometry its stored index count, or the indices that its kind 5 holds where that is 0, divided by 3; the
