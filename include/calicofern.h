@@ -41,6 +41,19 @@ extern "C" {
 uint8_t calicofern_hall_list(const uint8_t *system, size_t system_length, const uint8_t *graphics, size_t graphics_length, uint64_t va,
                              uint8_t *list, size_t list_length, uint64_t *size);
 
+/* Whether the first n bytes of `list` are a hall. Returns 0 where they are, else the lowest of these numbers that fails anywhere in them:
+     11  n is within the list's length; records are whole, each model's is followed by those of its geometries as kinds 2, 3, 4, 5, and each is exact in
+         length by its own numbers, kind 4 with count x stride vertex bytes
+     12  a model's mapping is its geometries' shader ids
+     13  there are at most 256 models and 16,384 geometries
+     14  a buffer's layout is 0, and the strides of geometry, declaration and buffer are equal
+     15  a position of nonzero size is declared, and the components have at most as many bytes as the stride
+     16  a geometry's vertices are its buffer's count, 1 to 65,535
+     17  both index counts are the indices held and 3 x triangles, at least 3
+     18  each index is below the count of vertices
+     19  the hall's image has at most 67,108,864 bytes */
+uint8_t calicofern_hall_check(const uint8_t *list, size_t list_length, size_t n);
+
 /* The triangles of a hall list: for each geometry its stored index count, or the indices that its kind 5 holds where that is 0, divided by 3; the
    sum, or 2^64 - 1 where the sum is above it. A record that is not whole ends the list. */
 uint64_t calicofern_triangle_count(const uint8_t *list, size_t list_length);

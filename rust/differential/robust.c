@@ -300,21 +300,76 @@ static unsigned call_list(void)
     return 2;
 }
 
-static unsigned call_triangles(void)
+static size_t put_record(size_t at, size_t length, unsigned kind)
 {
-    if (next() % 4 == 0)
-        random_bytes(0, below(300));
-    else {
+    put(sources[0] + at, length, 4);
+    put(sources[0] + at + 4, kind, 2);
+    return at + 6;
+}
+
+/* A sound geometry at this place, with positions of three floats; the end of it. */
+static size_t put_geometry(size_t at, size_t shader)
+{
+    uint8_t *s = sources[0];
+    size_t triangles = 1 + below(60), vertices = 1 + below(30);
+    size_t two = put_record(at, 14, 2), three = put_record(two + 14, 16, 3), four = put_record(three + 16, 7 + 12 * vertices, 4);
+    size_t five = put_record(four + 7 + 12 * vertices, 4 + 12 * triangles, 5);
+    put(s + two, shader, 2);
+    put(s + two + 2, 3 * triangles, 4);
+    put(s + two + 6, triangles, 4);
+    put(s + two + 10, vertices, 2);
+    put(s + two + 12, 12, 2);
+    put(s + three, 1, 4);
+    put(s + three + 4, 12, 2);
+    put(s + three + 8, 6, 8);
+    put(s + four, 0, 1);
+    put(s + four + 1, 12, 2);
+    put(s + four + 3, vertices, 4);
+    put(s + five, 3 * triangles, 4);
+    for (size_t i = 0; i < 3 * triangles; i++)
+        put(s + five + 4 + 4 * i, below(vertices), 4);
+    return five + 4 + 12 * triangles;
+}
+
+static void any_hall(void)
+{
+    size_t at = 0;
+    for (size_t models = below(4); models > 0; models--) {
+        size_t geometries = below(4), mapping = put_record(at, 6 + 2 * geometries, 1) + 6;
+        at = mapping + 2 * geometries;
+        for (size_t g = 0; g < geometries; g++) {
+            put(sources[0] + mapping + 2 * g, g, 2);
+            at = put_geometry(at, g);
+        }
+    }
+    source_lengths[0] = at;
+}
+
+/* How often the hall check gave each number. */
+static uint64_t verdicts[20];
+
+static unsigned call_lists(void)
+{
+    switch (next() % 8) {
+    case 0: random_bytes(0, below(300)); break;
+    case 1: case 2: case 3:
         source_lengths[0] = next() % 2 ? kept_length : below(kept_length + 1);
         memcpy(sources[0], kept_list, source_lengths[0]);
-        if (source_lengths[0] && next() % 2)
-            sources[0][below(source_lengths[0])] ^= 1u << (next() % 8);
+        break;
+    default: any_hall();
     }
+    if (source_lengths[0] && next() % 2)
+        sources[0][below(source_lengths[0])] ^= 1u << (next() % 8);
     uint8_t *list = lend_input(FIRST);
     uint64_t triangles = calicofern_triangle_count(list, source_lengths[0]);
     require(triangles == calicofern_triangle_count(list, source_lengths[0]), "triangle_count twice");
+    size_t n = next() % 8 ? source_lengths[0] : below(source_lengths[0] + 9);
+    uint8_t check = calicofern_hall_check(list, source_lengths[0], n);
+    require(check == 0 || (check >= 11 && check <= 19), "hall_check's number");
+    require(n <= source_lengths[0] || check == 11, "hall_check beyond the list");
+    verdicts[check]++;
     give_back_input(FIRST);
-    return 2;
+    return 3;
 }
 
 static unsigned call_buffer(void)
@@ -394,7 +449,7 @@ static void *drive(void *nothing)
     while (calls < wanted) {
         switch (next() % 16) {
         case 0: case 1: case 2: case 3: case 4: calls += call_list(); break;
-        case 5: case 6: calls += call_triangles(); break;
+        case 5: case 6: calls += call_lists(); break;
         case 7: case 8: case 9: calls += call_buffer(); break;
         case 10: case 11: case 12: case 13: calls += call_vertices(); break;
         case 14: calls += call_run(); break;
@@ -406,6 +461,10 @@ static void *drive(void *nothing)
     for (int i = 1; i <= 10; i++)
         if (refused[i])
             printf(" %llu by %d", (unsigned long long)refused[i], i);
+    printf("; hall checks: %llu sound", (unsigned long long)verdicts[0]);
+    for (int i = 11; i <= 19; i++)
+        if (verdicts[i])
+            printf(", %llu by %d", (unsigned long long)verdicts[i], i);
     printf("\n");
     return nothing;
 }

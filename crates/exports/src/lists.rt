@@ -1,15 +1,17 @@
-// The hall list call, and what is asked of models and lists.
+// The hall list call, the hall check, and what is asked of models and lists.
 ghost use mathlib.Core.Path.{_≡_};
 ghost use mathlib.Core.Bool.{not};
 ghost use Prim.Native.Nat.{_-_, _/_, _%_, _^_, min};
 ghost use lib.Dec.{eqb};
 ghost use lib.ListN.{length};
 ghost use Rattle.sections.specs.Address.{sections};
+ghost use Rattle.halls.specs.Checks.{hallVerdict};
 ghost use Rattle.halls.specs.Listing.{hallList};
 ghost use Rattle.halls.specs.Records.{records};
 ghost use Rattle.halls.specs.Triangles.{trianglesIn};
-ghost use Rattle.exports.specs.Told.{Told};
+ghost use Rattle.exports.specs.Told.{Told, verdictNumber};
 use crate::told::told_answer;
+use crate::told::told_verdict;
 
 #[no_mangle]
 pub extern "C" fn calicofern_hall_list<'a>(
@@ -22,6 +24,13 @@ pub extern "C" fn calicofern_hall_list<'a>(
     ensures { λ r. ⌜ Told (hallList (sections (now (system .entry)) (now (graphics .entry))) va (length (now (list .entry)))) (now (list .entry)) r (now (list .exit)) (now (size .exit)) ⌝ }
 {
     told_answer(halls::hall_list(system, graphics, va, list), size)
+}
+
+#[no_mangle]
+pub extern "C" fn calicofern_hall_check(list: &[u8], n: usize) -> u8
+    ensures { λ r. ⌜ r ≡ verdictNumber (hallVerdict (now (list .entry)) n) ⌝ }
+{
+    told_verdict(halls::hall_check(list, n))
 }
 
 #[no_mangle]

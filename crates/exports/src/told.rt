@@ -1,8 +1,9 @@
 // The libraries' answers as a number and a length.
 ghost use mathlib.Core.Path.{_≡_};
 ghost use Rattle.vertices.specs.Unified.{stated};
-ghost use Rattle.exports.specs.Told.{answerNumber, answerLength, runNumber, runLength};
+ghost use Rattle.exports.specs.Told.{answerNumber, answerLength, runNumber, runLength, verdictNumber};
 use halls::Answer;
+use halls::Verdict;
 use vertices::RunAnswer;
 use vertices::UnifyAnswer;
 
@@ -52,5 +53,14 @@ pub fn told_unified(answer: UnifyAnswer, size: &mut u64) -> u8
             *size = n;
             10
         }
+    }
+}
+
+pub fn told_verdict(verdict: Verdict) -> u8
+    ensures { λ r. ⌜ r ≡ verdictNumber verdict ⌝ }
+{
+    match verdict {
+        Verdict::Sound => 0,
+        Verdict::Fails(check) => check,
     }
 }

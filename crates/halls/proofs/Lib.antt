@@ -41,3 +41,4 @@ pub mod RemovedLaws
 pub mod ChangedLaws
 pub mod SpotLaws
 pub mod AttributeSet
+pub mod FoundLaws

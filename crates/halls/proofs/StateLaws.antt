@@ -185,17 +185,29 @@ read-state s f h r e =
     let same : hallOf (stateOf h) ≡ h = hall-of-state h e in
     record { inWidth = read-state-in-width s f h r; sound = ap verdict same ∙ e; bytes = ap hallBytes same ∙ r .same-bytes }
 
-judged-state : (s : List ℕ) → AllBytes s → (o : Option Hall) → parse s ≡ o → judged o ≡ Sound → IsState s (stateOf (modelsIn (records s)))
-judged-state s f none e v = let z : _≡_ {A = ℕ} 0 1 = cc in absurd (omega arith)
-judged-state s f (some h) e v =
-    let r : ReadHall s h = hall-parsed s f h e in
-    subst (λ (x : Hall). IsState s (stateOf x)) (r .is) (read-state s f h r v)
+-- what a verdict of "sound" says of the first n bytes
+pub record SoundBytes (b : List ℕ) (n : ℕ) : Type 0 where
+  pub within : n ≤ length b
+  pub parsed : parse (take n b) ≡ some (modelsIn (records (take n b)))
+  pub read : ReadHall (take n b) (modelsIn (records (take n b)))
+  pub sound : verdict (modelsIn (records (take n b))) ≡ Sound
+
+judged-bytes : (b : List ℕ) (n : ℕ) → AllBytes b → n ≤ length b → (o : Option Hall) → parse (take n b) ≡ o → judged o ≡ Sound → SoundBytes b n
+judged-bytes b n f h none e v = let z : _≡_ {A = ℕ} 0 1 = cc in absurd (omega arith)
+judged-bytes b n f h (some x) e v =
+    let r : ReadHall (take n b) x = hall-parsed (take n b) (take-below n b f) x e in
+    record { within = h; parsed = e ∙ ap some (r .is); read = subst (ReadHall (take n b)) (r .is) r; sound = ap verdict (sym (r .is)) ∙ v }
+
+pub sound-bytes : (b : List ℕ) (n : ℕ) → AllBytes b → hallVerdict b n ≡ Sound → SoundBytes b n
+unfolding hallVerdict
+sound-bytes b n f e =
+    let r = required 11 (leb n (length b)) (judged (parse (take n b))) e in
+    judged-bytes b n f (leb-true n (length b) (r .0)) (parse (take n b)) refl (r .1)
 
 pub sound-state : (b : List ℕ) (n : ℕ) → AllBytes b → hallVerdict b n ≡ Sound → (n ≤ length b) × IsState (take n b) (stateOf (modelsIn (records (take n b))))
-unfolding hallVerdict
 sound-state b n f e =
-    let r = required 11 (leb n (length b)) (judged (parse (take n b))) e in
-    (leb-true n (length b) (r .0), judged-state (take n b) (take-below n b f) (parse (take n b)) refl (r .1))
+    let w : SoundBytes b n = sound-bytes b n f e in
+    (w .within, read-state (take n b) (take-below n b f) (modelsIn (records (take n b))) (w .read) (w .sound))
 
 -- ---- a state's bytes are sound, and of that state alone
 

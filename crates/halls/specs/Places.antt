@@ -1,13 +1,17 @@
 -- Where a hall's records begin among the bytes of its list.
 use mathlib.Core.Path.{_≡_}
 use mathlib.Core.List.{List, [], _∷_, map}
-use mathlib.Core.Option.{Option, none, some, Option·map}
+use mathlib.Core.Option.{Option, none, some, Option·map, bind}
 use Prim.Native.Nat.{ℕ, _+_, _*_}
 use lib.ListN.{length, take, drop}
 use Rattle.halls.specs.List.{writeGeometries}
 use Rattle.halls.specs.Hall.{FullGeometry, FullModel, Hall, listedGeometry, hallBytes}
 use Rattle.halls.specs.Parsing.{modelsIn}
 use Rattle.halls.specs.Records.{records}
+use Rattle.halls.specs.Parsing.{parse}
+use Rattle.halls.specs.Checks.{hallVerdict}
+use Rattle.halls.specs.declared.check.Verdict.{Verdict}
+use Rattle.halls.specs.declared.check.Verdict.the-variants.{Sound, Fails}
 use Rattle.halls.specs.declared.find.GeometryPlace.{GeometryPlace}
 use Rattle.halls.specs.declared.find.FoundModel.{FoundModel}
 use Rattle.halls.specs.declared.find.FoundModel.the-variants.{At as ModelAt, Absent as NoModel}
@@ -61,3 +65,19 @@ foundGeometry (some places) = GeometryAt places
 -- geometry g of model m begins at this place in the first n bytes of a buffer
 abbrev pub GeometryIn : List ℕ → ℕ → ℕ → ℕ → ℕ → Type 0
 GeometryIn b n m g at = Option·map (λ (p : GeometryPlace). p .geometry) (geometryPlace (modelsIn (records (take n b))) m g) ≡ some at
+
+-- ---- in the first n bytes of a buffer: nothing where they are not a sound hall
+
+abbrev pub modelBy : Verdict → Option ℕ → FoundModel
+modelBy Sound place = foundModel place
+modelBy (Fails check) place = NoModel
+
+unfoldable pub modelFound : List ℕ → ℕ → ℕ → FoundModel
+modelFound b n m = modelBy (hallVerdict b n) (bind (parse (take n b)) (λ (h : Hall). modelPlace h m))
+
+abbrev pub geometryBy : Verdict → Option GeometryPlace → FoundGeometry
+geometryBy Sound places = foundGeometry places
+geometryBy (Fails check) places = NoGeometry
+
+unfoldable pub geometryFound : List ℕ → ℕ → ℕ → ℕ → FoundGeometry
+geometryFound b n m g = geometryBy (hallVerdict b n) (bind (parse (take n b)) (λ (h : Hall). geometryPlace h m g))

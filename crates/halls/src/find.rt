@@ -4,9 +4,11 @@ ghost use Prim.Native.Nat.{_^_, _≤_, _<_};
 ghost use lib.ListN.{length};
 ghost use Rattle.halls.specs.HallRecords.{hallRecords};
 ghost use Rattle.halls.specs.Parsing.{modelsIn};
-ghost use Rattle.halls.specs.Places.{modelPlace, geometryPlace, foundModel, foundGeometry};
+ghost use Rattle.halls.specs.Places.{modelPlace, geometryPlace, foundModel, foundGeometry, modelFound, geometryFound};
 ghost use Rattle.halls.specs.Records.{records};
 ghost use Rattle.halls.specs.Seeking.{sought};
+use crate::check::Verdict;
+use crate::check::hall_check;
 use sections::u16_le;
 use sections::u32_le;
 
@@ -27,6 +29,26 @@ pub enum FoundModel {
 pub enum FoundGeometry {
     At(GeometryPlace),
     Absent,
+}
+
+// The place of the m-th model's record in the first n bytes of `hall`; absent also where they are not a sound hall.
+pub fn find_model(hall: &[u8], n: usize, model: u64) -> FoundModel
+    ensures { λ r. ⌜ r ≡ modelFound (now (hall .entry)) n model ⌝ }
+{
+    match hall_check(hall, n) {
+        Verdict::Sound => model_at(&hall[..n], model),
+        Verdict::Fails(_) => FoundModel::Absent,
+    }
+}
+
+// The places of a geometry of the m-th model in the first n bytes of `hall`; absent also where they are not a sound hall.
+pub fn find_geometry(hall: &[u8], n: usize, model: u64, geometry: u64) -> FoundGeometry
+    ensures { λ r. ⌜ r ≡ geometryFound (now (hall .entry)) n model geometry ⌝ }
+{
+    match hall_check(hall, n) {
+        Verdict::Sound => geometry_at(&hall[..n], model, geometry),
+        Verdict::Fails(_) => FoundGeometry::Absent,
+    }
 }
 
 // The place of the m-th model's record in a list whose records are a hall's.

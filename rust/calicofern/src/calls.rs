@@ -29,6 +29,7 @@ extern "C" {
         list_length: usize,
         size: *mut u64,
     ) -> u8;
+    fn calicofern_hall_check(list: *const u8, list_length: usize, n: usize) -> u8;
     fn calicofern_triangle_count(list: *const u8, list_length: usize) -> u64;
     fn calicofern_bone_index(skeleton_binding: u32) -> u8;
     fn calicofern_is_skinned(skeleton_binding: u32) -> bool;
@@ -91,6 +92,12 @@ pub fn hall_list(system: &[u8], graphics: &[u8], va: u64, list: &mut [u8]) -> To
         calicofern_hall_list(system.as_ptr(), system.len(), graphics.as_ptr(), graphics.len(), va, list.as_mut_ptr(), list.len(), &mut size)
     };
     Told { check, size }
+}
+
+/// The number of the check that the list's bytes fail, 0 where they are a hall.
+pub fn hall_check(list: &[u8]) -> u8 {
+    // SAFETY: pointer and length of a borrowed slice, which is only read. n may be any number: the library compares it with the length.
+    unsafe { calicofern_hall_check(list.as_ptr(), list.len(), list.len()) }
 }
 
 pub fn triangle_count(list: &[u8]) -> u64 {

@@ -27,6 +27,7 @@
 //! | to do this | use |
 //! |---|---|
 //! | list the models and geometries of a drawable | [`Sections::hall_list`], [`HallList::models`] |
+//! | check that a list is a hall, so that it may be edited and saved | [`hall_check`] |
 //! | see where its counts disagree | [`DrawableGeometry::disagreements`], [`DrawableModel::disagreements`] |
 //! | read vertices as they are stored, or in one form | [`Vertices::read_vertex_attributes`], [`Vertices::to_unified_vertices`] |
 //! | find a vertex buffer by its address | [`Sections::vertex_buffer_at`] |
@@ -39,6 +40,7 @@ mod buffer;
 mod bytes;
 #[allow(unsafe_code)]
 mod calls;
+mod check;
 pub mod convert;
 mod declaration;
 mod disagreement;
@@ -54,6 +56,7 @@ mod unified;
 
 pub use attribute::{VertexAttribute, VertexAttributeValue};
 pub use buffer::{InlineVertices, VertexBuffer, VertexBufferLayout, Vertices};
+pub use check::hall_check;
 pub use declaration::{VertexComponent, VertexDeclaration};
 pub use disagreement::Disagreement;
 pub use geometry::{DrawableGeometry, Geometries, IndexBuffer, Indices};

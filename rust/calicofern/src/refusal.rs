@@ -28,7 +28,7 @@ pub struct Refusal {
 }
 
 impl Refusal {
-    /// The number of the check that failed, 1 to 10.
+    /// The number of the check that failed, 1 to 19.
     pub fn check(&self) -> u8 {
         self.check
     }
@@ -56,6 +56,15 @@ impl Refusal {
             8 => "there is no such vertex: its index must be below the number of vertices",
             9 => "a vertex is not inside its data: every component that has bytes must end inside the vertex data",
             10 => "the output is too short",
+            11 => "the list is not made of whole records in order: a model, then its geometries as kinds 2, 3, 4 and 5, each record as long as its own numbers say",
+            12 => "a model's mapping is not the list of its geometries' shader ids: it needs one entry for each geometry, in their order",
+            13 => "there are too many models or geometries: a hall has at most 256 models and 16384 geometries",
+            14 => "strides or layout disagree: the strides of geometry, declaration and vertex buffer must be equal and the layout 0, Legacy",
+            15 => "a declaration does not fit its vertices: it must declare a position that has bytes, and all components must fit into the stride",
+            16 => "vertex counts disagree: a geometry and its vertex buffer must have the same count, 1 to 65535",
+            17 => "index counts disagree: a geometry's count, its index buffer's count, the indices there are and 3 for each triangle must be equal, and at least 3",
+            18 => "an index names no vertex: each must be below the number of vertices",
+            19 => "the hall is too large to be saved: its image may have 67108864 bytes",
             _ => "a check that this version does not know",
         }
     }
@@ -103,10 +112,11 @@ mod tests {
 
     #[test]
     fn each_check_has_its_own_line() {
-        let lines: Vec<String> = (1..=10).map(|check| refusal(check, 0, 0).to_string()).collect();
+        let lines: Vec<String> = (1..=19).map(|check| refusal(check, 0, 0).to_string()).collect();
         for (line, check) in lines.iter().zip(1..) {
-            assert!(line.starts_with(&format!("check {check}: ")) && !line.contains('\n'), "{line}");
-            assert_eq!(lines.iter().filter(|other| other[8..] == line[8..]).count(), 1, "{line}");
+            let text = line.strip_prefix(&format!("check {check}: ")).unwrap_or_else(|| panic!("{line}"));
+            assert!(!text.contains('\n') && text != refusal(20, 0, 0).text(), "{line}");
+            assert_eq!(lines.iter().filter(|other| other.ends_with(text)).count(), 1, "{line}");
         }
     }
 

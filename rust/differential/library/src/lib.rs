@@ -7,7 +7,7 @@ mod vertices;
 
 pub use calls::{
     bone_index, declaration_id, f16_to_f32, f32_to_f16, f32_to_snorm8, f32_to_unorm8, floats_to_halves, floats_to_snorm8, floats_to_unorm8,
-    hall_list, halves_to_floats, is_skinned, snorm8_to_f32, snorm8_to_floats, snorm_colour8, triangle_count, unorm8_to_f32,
+    hall_check, hall_list, halves_to_floats, is_skinned, snorm8_to_f32, snorm8_to_floats, snorm_colour8, triangle_count, unorm8_to_f32,
     unorm8_to_floats, Told,
 };
 pub use vertices::{unified_vertices, vertex_attributes, vertex_buffer, Stream, Vertices};

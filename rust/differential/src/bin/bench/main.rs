@@ -7,6 +7,8 @@
 //!     bench [--quick | --once] [PART]
 //!
 //! `--quick` takes fewer rounds, `--once` makes each call of the library once and times nothing, for callgrind; PART names the rows that hold it.
+mod checks;
+
 use std::hint::black_box;
 
 use library::drawables::{put, Drawable, GRAPHICS, SYSTEM};
@@ -46,6 +48,7 @@ fn main() {
             bench_numbers(&bench, size, count, kind);
         }
     }
+    checks::bench_checks(&bench);
 }
 
 /// Names, flags and types.
