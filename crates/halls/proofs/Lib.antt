@@ -35,3 +35,5 @@ pub mod StepLaws
 pub mod RewrittenLaws
 pub mod SoundEdits
 pub mod RemovedLaws
+pub mod CutLaws
+pub mod RemovedGeometry
