@@ -1,12 +1,12 @@
 -- A geometry cut out of a hall's bytes: a hall's bytes in the parts that stay and the two that go, and what the edits of the buffer make of them.
-use mathlib.Core.Path.{_≡_, refl, sym, ap, _∙_}
-use mathlib.Core.List.{List, [], _∷_, _++_, map, map-append, append-assoc}
+use mathlib.Core.Path.{_≡_, sym, ap, _∙_}
+use mathlib.Core.List.{List, _∷_, _++_, map, map-append, append-assoc}
 use Prim.Native.Nat.{ℕ, _+_, _*_, _-_, _^_, _≤_, _<_}
 use native.Mathlib.Omega.{arith}
 use lib.ListN.{length, take, drop, length-append, length-drop}
 use lib.Seq.{take-at, drop-at, drop-append-le, drop-append-add}
 use Rattle.sections.specs.Edit.{part, overwrite}
-use Rattle.sections.specs.Le.{le, bytes, field}
+use Rattle.sections.specs.Le.{bytes, field}
 use Rattle.sections.proofs.LeLaws.{length-bytes, le-bytes, field-in}
 use Rattle.vertices.specs.Runs.{run}
 use Rattle.vertices.proofs.RunLaws.{run-append}

@@ -1,9 +1,9 @@
--- A geometry taken out of a hall: where its records and its mapping entry stand, and what the call comes to.
+-- models-before geometry taken out of a hall: where its records and its mapping entry stand, and what the call comes to.
 use mathlib.Core.Path.{_≡_, refl, sym, ap, _∙_, subst}
 use mathlib.Core.Bool.{Bool, _&&_}
 use mathlib.Core.List.{List, _∷_, _++_, map, map-append, append-assoc}
 use mathlib.Core.Option.{Option, none, some}
-use Prim.Native.Nat.{ℕ, suc, _+_, _*_, _-_, _^_, _≤_, _<_, max}
+use Prim.Native.Nat.{ℕ, suc, _+_, _*_, _-_, _^_, _≤_, _<_}
 use native.Mathlib.Omega.{arith}
 use borrow.Author.Tests.{le-leb}
 use lib.ListN.{length, take, drop, length-append, length-take, length-drop, length-map, take-append-drop}
@@ -19,9 +19,9 @@ use Rattle.halls.specs.Checks.{shaderIds, verdict}
 use Rattle.halls.specs.Hall.{FullGeometry, FullModel, Hall, FullGeometryInWidth, FullModelInWidth, listedGeometry, hallBytes}
 use Rattle.halls.specs.ImageSize.{geometrySize, modelSize}
 use Rattle.halls.specs.List.{recordBytes, indicesBody, geometryRecord, declarationRecord, verticesRecord, indicesRecord, writeGeometry}
-use Rattle.halls.specs.Places.{item, placesFrom, geometryPlaceIn, geometryPlace, foundGeometry}
+use Rattle.halls.specs.Places.{item, placesFrom, geometryPlace, foundGeometry}
 use Rattle.halls.specs.Reading.{refused, read}
-use Rattle.halls.specs.State.{Geometry, geometryState, modelState, hallOf, stateOf}
+use Rattle.halls.specs.State.{Geometry, geometryState, modelState, hallOf}
 use Rattle.halls.specs.Step.{stateIn, rewritten, Stepped}
 use Rattle.halls.specs.declared.answer.Answer.{Answer}
 use Rattle.halls.specs.declared.answer.Answer.the-variants.{Accepted, Refused}
@@ -172,39 +172,39 @@ module _ (b : List ℕ) (n : ℕ) (o : Old b n) (m g : ℕ) (places : GeometryPl
       let smaller : modelSize less ≤ modelSize x = omega (arith, fewer, sum-without geometrySize g gs) in
       sound-replaced h m x less (w .is) (o .sound) less-sound fewer smaller
 
-  -- ---- the bytes
+  -- ---- the bytes, in order: the models before, the record's length, the record up to the entry, the entry, what stands between, the geometry, what stands behind
 
-  abbrev A : List ℕ
-  A = hallBytes (take m h)
+  abbrev models-before : List ℕ
+  models-before = hallBytes (take m h)
 
-  abbrev L : ℕ → List ℕ
-  L entries = bytes 4 (6 + 2 * entries)
+  abbrev sized : ℕ → List ℕ
+  sized entries = bytes 4 (6 + 2 * entries)
 
-  abbrev F : List ℕ
-  F = recordFront x (shaderIds before)
+  abbrev front : List ℕ
+  front = recordFront x (shaderIds before)
 
-  abbrev E : List ℕ
-  E = bytes 2 (y .shader)
+  abbrev entry-bytes : List ℕ
+  entry-bytes = bytes 2 (y .shader)
 
-  abbrev M : List ℕ
-  M = run 2 (shaderIds after) ++ geometriesBytes before
+  abbrev between : List ℕ
+  between = run 2 (shaderIds after) ++ geometriesBytes before
 
-  abbrev G : List ℕ
-  G = writeGeometry (listedGeometry y)
+  abbrev gone : List ℕ
+  gone = writeGeometry (listedGeometry y)
 
-  abbrev C : List ℕ
-  C = geometriesBytes after ++ hallBytes (drop (suc m) h)
+  abbrev behind : List ℕ
+  behind = geometriesBytes after ++ hallBytes (drop (suc m) h)
 
-  whole-is : take n b ≡ A ++ (L (length (x .mapping)) ++ (F ++ (E ++ (M ++ (G ++ C)))))
+  whole-is : take n b ≡ models-before ++ (sized (length (x .mapping)) ++ (front ++ (entry-bytes ++ (between ++ (gone ++ behind)))))
   whole-is =
       sym (o .bytes-are) ∙ ap hallBytes (split-item m h x (w .is))
       ∙ whole-parts (take m h) (drop (suc m) h) x (shaderIds before) (shaderIds after) before after (y .shader) y mapping-is geometries-are
 
-  less-is : hallBytes (replaced m less h) ≡ A ++ (L (length (less .mapping)) ++ (F ++ (M ++ C)))
+  less-is : hallBytes (replaced m less h) ≡ models-before ++ (sized (length (less .mapping)) ++ (front ++ (between ++ behind)))
   less-is = less-parts (take m h) (drop (suc m) h) less (shaderIds before) (shaderIds after) before after (map-append (λ (k : FullGeometry). k .shader) before after) refl
 
-  buffer-is : b ≡ A ++ (L (length (x .mapping)) ++ (F ++ (E ++ (M ++ (G ++ (C ++ drop n b))))))
-  buffer-is = sym (take-append-drop n b) ∙ ap (λ (l : List ℕ). l ++ drop n b) whole-is ∙ all-behind A (L (length (x .mapping))) F E M G C (drop n b)
+  buffer-is : b ≡ models-before ++ (sized (length (x .mapping)) ++ (front ++ (entry-bytes ++ (between ++ (gone ++ (behind ++ drop n b))))))
+  buffer-is = sym (take-append-drop n b) ∙ ap (λ (l : List ℕ). l ++ drop n b) whole-is ∙ all-behind models-before (sized (length (x .mapping))) front entry-bytes between gone behind (drop n b)
 
   -- ---- lengths and places
 
@@ -221,42 +221,42 @@ module _ (b : List ℕ) (n : ℕ) (o : Old b n) (m g : ℕ) (places : GeometryPl
   entries-left : length (less .mapping) ≡ g + length after
   entries-left = ids-long (without g gs) ∙ length-append before after ∙ rw before-long
 
-  model-place : length A ≡ places .model
+  model-place : length models-before ≡ places .model
   model-place = sym (ap (λ (p : GeometryPlace). p .model) (w .begin))
 
-  F-long : length F ≡ 8 + 2 * g
-  F-long = simp (length-append, length-bytes, length-run, ids-long, before-long) (omega arith)
+  front-long : length front ≡ 8 + 2 * g
+  front-long = simp (length-append, length-bytes, length-run, ids-long, before-long) (omega arith)
 
-  M-long : length M ≡ 2 * length after + length (geometriesBytes before)
-  M-long = simp (length-append, length-run, ids-long) (omega arith)
+  between-long : length between ≡ 2 * length after + length (geometriesBytes before)
+  between-long = simp (length-append, length-run, ids-long) (omega arith)
 
-  G-long : length G ≡ 65 + length (y .vertices .content) + 4 * length (y .indices .items)
+  gone-long : length gone ≡ 65 + length (y .vertices .content) + 4 * length (y .indices .items)
   unfolding writeGeometry
-  G-long = simp (length-append, geometry-record-length, declaration-record-length, vertices-record-length, indices-record-length) (omega arith)
+  gone-long = simp (length-append, geometry-record-length, declaration-record-length, vertices-record-length, indices-record-length) (omega arith)
 
-  geometry-place : places .geometry ≡ places .model + 12 + 2 * g + 2 + length M
+  geometry-place : places .geometry ≡ places .model + 12 + 2 * g + 2 + length between
   geometry-place =
-      let e : places .geometry ≡ length A + (12 + 2 * length (x .mapping)) + length (geometriesBytes before) = ap (λ (p : GeometryPlace). p .geometry) (w .begin) in
-      omega (arith, model-place, entries-are, M-long)
+      let e : places .geometry ≡ length models-before + (12 + 2 * length (x .mapping)) + length (geometriesBytes before) = ap (λ (p : GeometryPlace). p .geometry) (w .begin) in
+      omega (arith, model-place, entries-are, between-long)
 
   indices-place : places .indices ≡ places .geometry + 55 + length (y .vertices .content)
   indices-place =
-      let e : places .indices ≡ length A + (12 + 2 * length (x .mapping)) + length (geometriesBytes before) + 55 + length (y .vertices .content) = ap (λ (p : GeometryPlace). p .indices) (w .begin) in
-      let f : places .geometry ≡ length A + (12 + 2 * length (x .mapping)) + length (geometriesBytes before) = ap (λ (p : GeometryPlace). p .geometry) (w .begin) in
+      let e : places .indices ≡ length models-before + (12 + 2 * length (x .mapping)) + length (geometriesBytes before) + 55 + length (y .vertices .content) = ap (λ (p : GeometryPlace). p .indices) (w .begin) in
+      let f : places .geometry ≡ length models-before + (12 + 2 * length (x .mapping)) + length (geometriesBytes before) = ap (λ (p : GeometryPlace). p .geometry) (w .begin) in
       omega arith
 
-  all-long : n ≡ places .geometry + length G + length C
+  all-long : n ≡ places .geometry + length gone + length behind
   all-long =
-      let size : List ℕ = L (length (x .mapping)) in
+      let size : List ℕ = sized (length (x .mapping)) in
       let four : length size ≡ 4 = length-bytes 4 (6 + 2 * length (x .mapping)) in
-      let two : length E ≡ 2 = length-bytes 2 (y .shader) in
-      let all : n ≡ length A + length size + length F + length E + length M + length G + length C = sym (length-take-le n b (o .within)) ∙ ap length whole-is ∙ all-length A size F E M G C in
-      omega (arith, model-place, geometry-place, F-long)
+      let two : length entry-bytes ≡ 2 = length-bytes 2 (y .shader) in
+      let all : n ≡ length models-before + length size + length front + length entry-bytes + length between + length gone + length behind = sym (length-take-le n b (o .within)) ∙ ap length whole-is ∙ all-length models-before size front entry-bytes between gone behind in
+      omega (arith, model-place, geometry-place, front-long)
 
   model-length : field 4 b (places .model) ≡ 6 + 2 * length (x .mapping)
   model-length =
       ap (λ (l : List ℕ). field 4 l (places .model)) buffer-is
-      ∙ number-between A (F ++ (E ++ (M ++ (G ++ (C ++ drop n b))))) 4 (6 + 2 * length (x .mapping)) (places .model) model-place (omega (arith, model-fits .mapping))
+      ∙ number-between models-before (front ++ (entry-bytes ++ (between ++ (gone ++ (behind ++ drop n b))))) 4 (6 + 2 * length (x .mapping)) (places .model) model-place (omega (arith, model-fits .mapping))
 
   indices-length : field 4 b (places .indices) ≡ 4 + 4 * length (y .indices .items)
   unfolding writeGeometry indicesRecord recordBytes
@@ -265,17 +265,17 @@ module _ (b : List ℕ) (n : ℕ) (o : Old b n) (m g : ℕ) (places : GeometryPl
       let three : List ℕ = declarationRecord (y .declaration) in
       let four : List ℕ = verticesRecord (y .vertices) in
       let body : List ℕ = indicesBody (y .indices) in
-      let size : List ℕ = L (length (x .mapping)) in
-      let front : List ℕ = A ++ (size ++ (F ++ (E ++ (M ++ (two ++ (three ++ four)))))) in
+      let size : List ℕ = sized (length (x .mapping)) in
+      let ahead : List ℕ = models-before ++ (size ++ (front ++ (entry-bytes ++ (between ++ (two ++ (three ++ four)))))) in
       let long : length body ≡ 4 + 4 * length (y .indices .items) = indices-body-length (y .indices) in
       let low : length body < 256 ^ 4 = omega (arith, geometry-fits .held) in
       let s4 : length size ≡ 4 = length-bytes 4 (6 + 2 * length (x .mapping)) in
-      let s2 : length E ≡ 2 = length-bytes 2 (y .shader) in
-      let sum : length front ≡ length A + length size + length F + length E + length M + length two + length (three ++ four) = all-length A size F E M two (three ++ four) in
+      let s2 : length entry-bytes ≡ 2 = length-bytes 2 (y .shader) in
+      let sum : length ahead ≡ length models-before + length size + length front + length entry-bytes + length between + length two + length (three ++ four) = all-length models-before size front entry-bytes between two (three ++ four) in
       let records : length (three ++ four) ≡ 22 + (13 + length (y .vertices .content)) = length-append three four ∙ rw (declaration-record-length (y .declaration), vertices-record-length (y .vertices)) in
-      let place : length front ≡ places .indices = omega (arith, model-place, geometry-place, indices-place, F-long, geometry-record-length (listedGeometry y)) in
-      ap (λ (l : List ℕ). field 4 l (places .indices)) (buffer-is ∙ last-record A size F E M two three four (bytes 4 (length body)) (bytes 2 5) body (C ++ drop n b))
-      ∙ number-between front ((bytes 2 5 ++ body) ++ (C ++ drop n b)) 4 (length body) (places .indices) place low ∙ long
+      let place : length ahead ≡ places .indices = omega (arith, model-place, geometry-place, indices-place, front-long, geometry-record-length (listedGeometry y)) in
+      ap (λ (l : List ℕ). field 4 l (places .indices)) (buffer-is ∙ last-record models-before size front entry-bytes between two three four (bytes 4 (length body)) (bytes 2 5) body (behind ++ drop n b))
+      ∙ number-between ahead ((bytes 2 5 ++ body) ++ (behind ++ drop n b)) 4 (length body) (places .indices) place low ∙ long
 
   -- ---- what the edits need
 
@@ -283,17 +283,17 @@ module _ (b : List ℕ) (n : ℕ) (o : Old b n) (m g : ℕ) (places : GeometryPl
     pub model-low : places .model + 4 ≤ n
     pub indices-low : places .indices + 10 ≤ n
     pub entry-low : places .model + 12 + 2 * g + 2 ≤ places .geometry
-    pub end-is : places .indices + 6 + held ≡ places .geometry + length G
+    pub end-is : places .indices + 6 + held ≡ places .geometry + length gone
     pub end-low : places .indices + 6 + held ≤ n
     pub some-entry : 8 ≤ field 4 b (places .model)
 
   pub spot : (held : ℕ) → held ≡ field 4 b (places .indices) → Spot held
   spot held e = record {
     model-low = omega (arith, geometry-place, all-long);
-    indices-low = omega (arith, indices-place, G-long, all-long);
+    indices-low = omega (arith, indices-place, gone-long, all-long);
     entry-low = omega (arith, geometry-place);
-    end-is = omega (arith, indices-length, indices-place, G-long);
-    end-low = omega (arith, indices-length, indices-place, G-long, all-long);
+    end-is = omega (arith, indices-length, indices-place, gone-long);
+    end-low = omega (arith, indices-length, indices-place, gone-long, all-long);
     some-entry = omega (arith, model-length, entries-are);
   }
 
@@ -313,19 +313,19 @@ module _ (b : List ℕ) (n : ℕ) (o : Old b n) (m g : ℕ) (places : GeometryPl
     abbrev end : ℕ
     end = places .indices + 6 + held
 
-    abbrev P : List ℕ
-    P = A ++ (L (length (less .mapping)) ++ F)
+    abbrev kept : List ℕ
+    kept = models-before ++ (sized (length (less .mapping)) ++ front)
 
-    shortened-is : t ≡ P ++ (E ++ (M ++ (G ++ (C ++ drop n b))))
+    shortened-is : t ≡ kept ++ (entry-bytes ++ (between ++ (gone ++ (behind ++ drop n b))))
     shortened-is =
         let v : List ℕ = bytes 4 (size - 2) in
         let number : size - 2 ≡ 6 + 2 * length (less .mapping) = omega (arith, model-length, entries-are, entries-left) in
-        let others : List ℕ = F ++ (E ++ (M ++ (G ++ (C ++ drop n b)))) in
-        let same : length (L (length (x .mapping))) ≡ length (L (length (less .mapping))) = length-bytes 4 (6 + 2 * length (x .mapping)) ∙ sym (length-bytes 4 (6 + 2 * length (less .mapping))) in
+        let others : List ℕ = front ++ (entry-bytes ++ (between ++ (gone ++ (behind ++ drop n b)))) in
+        let same : length (sized (length (x .mapping))) ≡ length (sized (length (less .mapping))) = length-bytes 4 (6 + 2 * length (x .mapping)) ∙ sym (length-bytes 4 (6 + 2 * length (less .mapping))) in
         edited-fits 4 shortened (omega (arith, spot held f .model-low, o .within)) ∙ ap (λ (l : List ℕ). overwrite l (places .model) v) buffer-is
-        ∙ ap (λ (i : ℕ). overwrite (A ++ (L (length (x .mapping)) ++ others)) (places .model) (bytes 4 i)) number
-        ∙ over-between A (L (length (x .mapping))) (L (length (less .mapping))) others (places .model) model-place same
-        ∙ three-first A (L (length (less .mapping))) F (E ++ (M ++ (G ++ (C ++ drop n b))))
+        ∙ ap (λ (i : ℕ). overwrite (models-before ++ (sized (length (x .mapping)) ++ others)) (places .model) (bytes 4 i)) number
+        ∙ over-between models-before (sized (length (x .mapping))) (sized (length (less .mapping))) others (places .model) model-place same
+        ∙ three-first models-before (sized (length (less .mapping))) front (entry-bytes ++ (between ++ (gone ++ (behind ++ drop n b))))
 
     same-length : length t ≡ length b
     same-length =
@@ -333,21 +333,21 @@ module _ (b : List ℕ) (n : ℕ) (o : Old b n) (m g : ℕ) (places : GeometryPl
         let room : places .model + 4 ≤ length b = omega (arith, spot held f .model-low, o .within) in
         ap length (edited-fits 4 shortened room) ∙ overwrite-length b (places .model) v (rw (length-bytes 4 (size - 2)) room)
 
-    P-long : length P ≡ entry
-    P-long =
-        let four : length (L (length (less .mapping))) ≡ 4 = length-bytes 4 (6 + 2 * length (less .mapping)) in
-        length-append A (L (length (less .mapping)) ++ F) ∙ rw (length-append (L (length (less .mapping))) F) (omega (arith, model-place, F-long))
+    kept-long : length kept ≡ entry
+    kept-long =
+        let four : length (sized (length (less .mapping))) ≡ 4 = length-bytes 4 (6 + 2 * length (less .mapping)) in
+        length-append models-before (sized (length (less .mapping)) ++ front) ∙ rw (length-append (sized (length (less .mapping))) front) (omega (arith, model-place, front-long))
 
-    M-place : entry + 2 + length M ≡ at
-    M-place = sym geometry-place
+    between-place : entry + 2 + length between ≡ at
+    between-place = sym geometry-place
 
-    G-place : at + length G ≡ end
-    G-place = sym (spot held f .end-is)
+    gone-place : at + length gone ≡ end
+    gone-place = sym (spot held f .end-is)
 
-    C-place : end + length C ≡ n
-    C-place = omega (arith, spot held f .end-is, all-long)
+    behind-place : end + length behind ≡ n
+    behind-place = omega (arith, spot held f .end-is, all-long)
 
-    moved-is : t₂ ≡ overwrite (P ++ (E ++ (M ++ (G ++ (C ++ drop n b))))) entry M
+    moved-is : t₂ ≡ overwrite (kept ++ (entry-bytes ++ (between ++ (gone ++ (behind ++ drop n b))))) entry between
     moved-is =
         let d : ℕ = at - (entry + 2) in
         let q = spot held f in
@@ -355,22 +355,22 @@ module _ (b : List ℕ) (n : ℕ) (o : Old b n) (m g : ℕ) (places : GeometryPl
         let here : entry + d ≤ length t = omega arith in
         let done : t₂ ≡ overwrite t entry (part t (entry + 2) d) = rw (le-leb (entry + 2 + d) (length t) there, le-leb (entry + d) (length t) here) at (moved .bytes) in
         done ∙ ap (λ (l : List ℕ). overwrite l entry (part l (entry + 2) d)) shortened-is
-        ∙ ap (overwrite (P ++ (E ++ (M ++ (G ++ (C ++ drop n b))))) entry) (moved-part P E M G C (drop n b) entry at end n P-long (length-bytes 2 (y .shader)) M-place G-place C-place)
+        ∙ ap (overwrite (kept ++ (entry-bytes ++ (between ++ (gone ++ (behind ++ drop n b))))) entry) (moved-part kept entry-bytes between gone behind (drop n b) entry at end n kept-long (length-bytes 2 (y .shader)) between-place gone-place behind-place)
 
     new-long : n - (end - at) - 2 ≡ length (hallBytes (replaced m less h))
     new-long =
-        let four : length (L (length (less .mapping))) ≡ 4 = length-bytes 4 (6 + 2 * length (less .mapping)) in
-        let all : length (hallBytes (replaced m less h)) ≡ length P + length (M ++ C) = ap length (less-is ∙ three-first A (L (length (less .mapping))) F (M ++ C)) ∙ length-append P (M ++ C) in
-        omega (arith, P-long, length-append M C, M-place, G-place, C-place)
+        let four : length (sized (length (less .mapping))) ≡ 4 = length-bytes 4 (6 + 2 * length (less .mapping)) in
+        let all : length (hallBytes (replaced m less h)) ≡ length kept + length (between ++ behind) = ap length (less-is ∙ three-first models-before (sized (length (less .mapping))) front (between ++ behind)) ∙ length-append kept (between ++ behind) in
+        omega (arith, kept-long, length-append between behind, between-place, gone-place, behind-place)
 
     pub geometry-cut : Stepped (removeGeometry m g) b n (Accepted (n - (end - at) - 2)) u
     geometry-cut =
-        let v : List ℕ = P ++ (M ++ C) in
-        let two : length E ≡ 2 = length-bytes 2 (y .shader) in
+        let v : List ℕ = kept ++ (between ++ behind) in
+        let two : length entry-bytes ≡ 2 = length-bytes 2 (y .shader) in
         let parts : take (at - 2) (take n t₂) ++ drop end (take n t₂) ≡ v =
-        ap (λ (l : List ℕ). take (at - 2) (take n l) ++ drop end (take n l)) moved-is ∙ cut-parts P E M G C (drop n b) entry at end n P-long two M-place G-place C-place in
-        let others : drop n t₂ ≡ drop n b = ap (drop n) moved-is ∙ cut-others P E M G C (drop n b) entry at end n P-long two M-place G-place C-place in
-        let short : length v ≤ n = rw (length-append P (M ++ C), length-append M C) (omega (arith, P-long, M-place, G-place, C-place)) in
-        let is : v ≡ hallBytes (replaced m less h) = sym (less-is ∙ three-first A (L (length (less .mapping))) F (M ++ C)) in
+        ap (λ (l : List ℕ). take (at - 2) (take n l) ++ drop end (take n l)) moved-is ∙ cut-parts kept entry-bytes between gone behind (drop n b) entry at end n kept-long two between-place gone-place behind-place in
+        let others : drop n t₂ ≡ drop n b = ap (drop n) moved-is ∙ cut-others kept entry-bytes between gone behind (drop n b) entry at end n kept-long two between-place gone-place behind-place in
+        let short : length v ≤ n = rw (length-append kept (between ++ behind), length-append between behind) (omega (arith, kept-long, between-place, gone-place, behind-place)) in
+        let is : v ≡ hallBytes (replaced m less h) = sym (less-is ∙ three-first models-before (sized (length (less .mapping))) front (between ++ behind)) in
         becomes-new (removeGeometry m g) b n o (replaced m less h) proposed-is hall-sound (n - (end - at) - 2) u new-long (omega (arith, o .within))
         (closed ∙ ap (rewritten t₂ n) parts ∙ rewritten-others t₂ b n v others short ∙ ap (rewritten b n) is)
