@@ -21,6 +21,16 @@ facts c = spot _ _ (sound c) _ _ _ (there c) _ refl
 read : (c : tie.After-u32-le) → let k = c .before .before .before .before in let a = k .before .args in Spot (a .hall .now) (a .n) (sound k) (a .model) (a .geometry) (a .places) (there k) (c .u32-le .result)
 read c = let k = c .before .before .before .before in spot _ _ (sound k) _ _ _ (there k) _ (c .u32-le .ensures)
 
+-- back to there from the move, from the closing of the gap and from the end
+abbrev at-move : tie.After-copy-within-arg → tie.After-u32-le
+at-move c = c .before .before .before .before .before .before .before
+
+abbrev at-gap : tie.After-close-gap-arg → tie.After-u32-le
+at-gap c = at-move (c .before .before .before .before)
+
+abbrev at-end : tie.After-slice-known4 → tie.After-u32-le
+at-end c = at-gap (c .before .before .before)
+
 returns : tie.Need-returns
 returns c =
     let moved = c .before .before .before .before .before .before in
@@ -44,17 +54,17 @@ cut-geometry-spec =
     (λ c κs. search needs)
     (λ c. let f = facts (c .before .before .before .before .before .before .before) in omega (arith, c .before .u32-le2 .ensures, f .some-entry))
     (λ c κs. search needs)
-    (λ c. let f = read (c .before .before .before .before .before .before .before) in omega (arith, f .entry-low, f .end-is, f .end-low))
-    (λ c. let f = read (c .before .before .before .before .before .before .before) in omega (arith, f .entry-low, f .end-is, f .end-low))
-    (λ c. read (c .before .before .before .before .before .before .before) .entry-low)
+    (λ c. let f = read (at-move c) in omega (arith, f .entry-low, f .end-is, f .end-low))
+    (λ c. let f = read (at-move c) in omega (arith, f .entry-low, f .end-is, f .end-low))
+    (λ c. read (at-move c) .entry-low)
     (λ c κs. search needs)
-    (λ c. let f = read (c .before .before .before .before .before .before .before .before .before .before .before) in omega (arith, f .entry-low))
+    (λ c. let f = read (at-gap c) in omega (arith, f .entry-low))
     (λ c κs.
-    let r = c .before .before .before .before .before .before .before .before .before .before .before in
+    let r = at-gap c in
     let f = read r in
     (omega (arith, f .end-is), f .end-low, omega (arith, sound (r .before .before .before .before) .within)))
-    (λ c. let f = read (c .before .before .before .before .before .before .before .before .before .before .before .before .before .before) in omega (arith, f .end-is))
-    (λ c. let f = read (c .before .before .before .before .before .before .before .before .before .before .before .before .before .before) in omega (arith, f .end-low))
-    (λ c. let f = read (c .before .before .before .before .before .before .before .before .before .before .before .before .before .before) in omega (arith, f .entry-low, f .end-is, f .end-low))
+    (λ c. let f = read (at-end c) in omega (arith, f .end-is))
+    (λ c. let f = read (at-end c) in omega (arith, f .end-low))
+    (λ c. let f = read (at-end c) in omega (arith, f .entry-low, f .end-is, f .end-low))
     (λ c. search needs)
     returns)
