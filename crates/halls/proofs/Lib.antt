@@ -42,3 +42,5 @@ pub mod ChangedLaws
 pub mod SpotLaws
 pub mod AttributeSet
 pub mod FoundLaws
+pub mod CutLaws
+pub mod RemovedGeometry
