@@ -42,7 +42,7 @@ use Rattle.halls.proofs.StepLaws.{hallIn, Old, stays-barred, becomes-ne
 
 -- ---- bytes over bytes in the middle
 
-overwrite-inside : (a c z v : List ℕ) (i : ℕ) → i + length v ≤ length c → overwrite (a ++ (c ++ z)) (length a + i) v ≡ a ++ (overwrite c i v ++ z)
+pub overwrite-inside : (a c z v : List ℕ) (i : ℕ) → i + length v ≤ length c → overwrite (a ++ (c ++ z)) (length a + i) v ≡ a ++ (overwrite c i v ++ z)
 unfolding overwrite
 overwrite-inside a c z v i h =
     let k : i ≤ length c = omega arith in

@@ -54,7 +54,7 @@ limits-low true true = (omega arith, omega arith)
 limits-low true false = (omega arith, omega arith)
 limits-low false image = (omega arith, omega arith)
 
-sixteenth : (x : ℕ) → leb (16 * x) 67108864 ≡ leb x 4194304
+pub sixteenth : (x : ℕ) → leb (16 * x) 67108864 ≡ leb x 4194304
 sixteenth x = on (leb x 4194304) refl
   where
     on : (t : Bool) → leb x 4194304 ≡ t → leb (16 * x) 67108864 ≡ t

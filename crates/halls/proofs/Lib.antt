@@ -38,3 +38,5 @@ pub mod RemovedLaws
 pub mod ChangedLaws
 pub mod SpotLaws
 pub mod AttributeSet
+pub mod IndicesWritten
+pub mod NewIndices

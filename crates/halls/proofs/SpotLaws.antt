@@ -140,6 +140,17 @@ geometry-records f rest = simp append-assoc
 unfoldable pub contentHead : FullGeometry → List ℕ
 contentHead f = geometryRecord (listedGeometry f) ++ (declarationRecord (f .declaration) ++ verticesHead f)
 
+-- in it the numbers of indices and triangles
+abbrev pub headStart : FullGeometry → List ℕ
+headStart f = bytes 4 14 ++ (bytes 2 2 ++ bytes 2 (f .shader))
+
+abbrev pub headRest : FullGeometry → List ℕ
+headRest f = bytes 2 (f .vertexCount) ++ (bytes 2 (f .stride) ++ (declarationRecord (f .declaration) ++ verticesHead f))
+
+pub head-counts : (f : FullGeometry) → contentHead f ≡ headStart f ++ ((bytes 4 (f .indexCount) ++ bytes 4 (f .triangleCount)) ++ headRest f)
+unfolding contentHead
+head-counts f = two-parts f (declarationRecord (f .declaration) ++ verticesHead f) ∙ simp append-assoc
+
 pub content-parts : (f : FullGeometry) (rest : List ℕ) → writeGeometry (listedGeometry f) ++ rest ≡ contentHead f ++ (f .vertices .content ++ (indicesRecord (f .indices) ++ rest))
 unfolding contentHead
 content-parts f rest =
@@ -157,7 +168,7 @@ content-head-length f =
 
 -- ---- what stands there
 
-field-there : (s p q r : List ℕ) (k v at i : ℕ) → at ≡ length p → length q ≡ i → v < 256 ^ k → s ≡ p ++ (q ++ (bytes k v ++ r)) → field k s (at + i) ≡ v
+pub field-there : (s p q r : List ℕ) (k v at i : ℕ) → at ≡ length p → length q ≡ i → v < 256 ^ k → s ≡ p ++ (q ++ (bytes k v ++ r)) → field k s (at + i) ≡ v
 field-there s p q r k v at i a b h e =
     let l : length (p ++ q) ≡ at + i = rw (length-append p q) (omega arith) in
     ap (λ (x : List ℕ). field k x (at + i)) (e ∙ sym (append-assoc p q (bytes k v ++ r))) ∙ field-behind (p ++ q) r k v (at + i) l h

@@ -41,7 +41,7 @@ fn set_u16(b: &mut [u8], off: usize, v: u16)
     b[off + 1] = (v / 256) as u8;
 }
 
-fn set_u32(b: &mut [u8], off: usize, v: u32)
+pub fn set_u32(b: &mut [u8], off: usize, v: u32)
     requires { ⌜ off + 4 ≤ length (now b) ⌝ }
     ensures { λ _. ⌜ now (b .exit) ≡ overwrite (now (b .entry)) off (bytes 4 v) ⌝ }
 {
