@@ -15,7 +15,7 @@ use Rattle.sections.proofs.EditLaws.{overwrite-all}
 use Rattle.sections.proofs.LeLaws.{length-bytes}
 use Rattle.vertices.specs.Runs.{run}
 use Rattle.halls.specs.Calls.{Call, replaceIndices, proposed, withIndices, withGeometry}
-use Rattle.halls.specs.Checks.{vertexBytesExact, stridesAgree, componentsInside, vertexCountsAgree, indexCountsAgree, indicesInRange, geometryCount, countsWithinLimits, imageWithinLimit, everyGeometry, verdict}
+use Rattle.halls.specs.Checks.{vertexBytesExact, stridesAgree, componentsInside, vertexCountsAgree, indexCountsAgree, indicesInRange, geometryCount, countsWithinLimits, imageWithinLimit, verdict}
 use Rattle.halls.specs.Hall.{FullGeometry, FullModel, Hall, hallBytes}
 use Rattle.halls.specs.ImageSize.{geometrySize, modelSize, imageSize}
 use Rattle.halls.specs.List.{indicesRecord}
@@ -29,13 +29,12 @@ use Rattle.halls.specs.declared.answer.Answer.the-variants.{Accepted, Re
 use Rattle.halls.specs.declared.check.Verdict.the-variants.{Sound}
 use Rattle.halls.specs.declared.find.FoundGeometry.the-variants.{Absent as NoGeometry}
 use Rattle.halls.specs.declared.walk.Summary.{Summary}
-use Rattle.halls.proofs.AttributeSet.{overwrite-inside}
-use Rattle.halls.proofs.ChangedLaws.{changedHall, bytesBefore, bytesBehind, bytes-changed, passes, image-changed, verdict-changed}
+use Rattle.halls.proofs.ChangedLaws.{changedHall, bytesBefore, bytesBehind, bytes-changed, image-changed, verdict-changed}
 use Rattle.halls.proofs.ExaminedLaws.{sixteenth}
 use Rattle.halls.proofs.IndicesWritten.{record-is, new-record-length}
 use Rattle.halls.proofs.SoundEdits.{sum-item}
-use Rattle.halls.proofs.SoundLaws.{SoundHall, verdict-sound}
-use Rattle.halls.proofs.SpotLaws.{Spot, not-there, contentHead, headStart, headRest, head-counts, content-parts, content-head-length, field-there, spot-bytes, spot-sound, spot-in-width, spot-count, spot-stride, new-hall}
+use Rattle.halls.proofs.SoundLaws.{verdict-sound}
+use Rattle.halls.proofs.SpotLaws.{Spot, not-there, overwrite-inside, spot-hall, spot-passes, contentHead, headStart, headRest, head-counts, content-parts, content-head-length, field-there, spot-bytes, spot-sound, spot-in-width, spot-count, spot-stride, new-hall}
 use Rattle.halls.proofs.StepLaws.{hallIn, Old, stays-barred, stays-judged, stays-long, becomes-new}
 
 -- check 17 of new indices, as the code asks it
@@ -153,27 +152,21 @@ module _ {b : List ℕ} {n m g at : ℕ} (w : Spot b n m g at) (xs : List ℕ) w
 
   -- ---- the checks
 
-  sound : SoundHall h
-  sound = verdict-sound h (w .old .sound)
-
-  passed : (test : FullGeometry → Bool) → everyGeometry test h ≡ true → test f ≡ true
-  passed test p = passes h m g x f (w .in-hall) (w .in-model) test p
-
   bytes-pass : vertexBytesExact y ≡ true
   unfolding vertexBytesExact
-  bytes-pass = passed vertexBytesExact (sound .vertex-bytes)
+  bytes-pass = spot-passes w vertexBytesExact (spot-hall w .vertex-bytes)
 
   strides-pass : stridesAgree y ≡ true
   unfolding stridesAgree
-  strides-pass = passed stridesAgree (sound .strides)
+  strides-pass = spot-passes w stridesAgree (spot-hall w .strides)
 
   components-pass : componentsInside y ≡ true
   unfolding componentsInside
-  components-pass = passed componentsInside (sound .components)
+  components-pass = spot-passes w componentsInside (spot-hall w .components)
 
   counts-pass : vertexCountsAgree y ≡ true
   unfolding vertexCountsAgree
-  counts-pass = passed vertexCountsAgree (sound .vertex-counts)
+  counts-pass = spot-passes w vertexCountsAgree (spot-hall w .vertex-counts)
 
   index-counts-are : indexCountsAgree y ≡ (eqb (length xs % 3) 0 && leb 3 (length xs))
   unfolding indexCountsAgree
@@ -195,7 +188,7 @@ module _ {b : List ℕ} {n m g at : ℕ} (w : Spot b n m g at) (xs : List ℕ) w
     pub new-verdict : verdict after ≡ indicesVerdict xs (vertexCount (w .geometry)) (r .models) parts
     unfolding indicesVerdict indicesInRange imageWithinLimit
     new-verdict =
-        ap verdict (new-hall w changed refl) ∙ verdict-changed h m g x f (w .in-hall) (w .in-model) y sound refl bytes-pass strides-pass components-pass counts-pass
+        ap verdict (new-hall w changed refl) ∙ verdict-changed h m g x f (w .in-hall) (w .in-model) y (spot-hall w) refl bytes-pass strides-pass components-pass counts-pass
         ∙ rw (index-counts-are, ← image-is, sixteenth (1 + units (8 * r .models) + parts))
 
   -- ---- as the code finds them
@@ -234,8 +227,8 @@ module _ {b : List ℕ} {n m g at : ℕ} (w : Spot b n m g at) (xs : List ℕ) w
         pub few-units : (units (2 * q) ≤ r .units) × (r .models ≤ 256) × (r .units ≤ 4194304)
         unfolding countsWithinLimits imageWithinLimit
         few-units =
-            let models : length h ≤ 256 = leb-true (length h) 256 (both-true (leb (length h) 256) (leb (geometryCount h) 16384) (sound .counts) .0) in
-            let image : imageSize h ≤ 67108864 = leb-true (imageSize h) 67108864 (sound .image) in
+            let models : length h ≤ 256 = leb-true (length h) 256 (both-true (leb (length h) 256) (leb (geometryCount h) 16384) (spot-hall w .counts) .0) in
+            let image : imageSize h ≤ 67108864 = leb-true (imageSize h) 67108864 (spot-hall w .image) in
             (rw held-is (old-units r c), omega (arith, c .models), omega (arith, c .image))
 
         module _ (lowest : ℕ) (v : verdictOf lowest ≡ indicesVerdict xs k (r .models) (r .units - units (2 * q) + units (2 * length xs))) where
