@@ -8,7 +8,6 @@ use native.Mathlib.Nat.{mul-le-mul-right, suc-mul}
 use native.Mathlib.Omega.{arith}
 use borrow.Author.Tests.{le-leb, le-ltb, lt-ltb}
 use lib.ListN.{length, take, length-append, length-take}
-use lib.Seq.{take-append-add, take-append-le, drop-append-le, drop-append-add}
 use Rattle.sections.specs.Edit.{overwrite, fits, Edited}
 use Rattle.sections.specs.Le.{field}
 use Rattle.sections.proofs.EditLaws.{overwrite-length}
@@ -23,7 +22,7 @@ use Rattle.vertices.proofs.ComponentLaws.{component-among, found-within}
 use Rattle.vertices.proofs.EncodeLaws.{encoded-length}
 use Rattle.vertices.proofs.UnifiedChecks.{components-sized}
 use Rattle.halls.specs.Calls.{Call, setAttribute, proposed, attributeSet, withContent, withGeometry}
-use Rattle.halls.specs.Checks.{vertexBytesExact, stridesAgree, componentsInside, vertexCountsAgree, indexCountsAgree, indicesInRange, imageWithinLimit, everyGeometry, verdict}
+use Rattle.halls.specs.Checks.{vertexBytesExact, stridesAgree, componentsInside, vertexCountsAgree, indexCountsAgree, indicesInRange, imageWithinLimit, verdict}
 use Rattle.halls.specs.Hall.{FullGeometry, FullModel, Hall, hallBytes}
 use Rattle.halls.specs.ImageSize.{geometrySize, imageSize}
 use Rattle.halls.specs.List.{recordBytes, geometryRecord, indicesRecord}
@@ -34,20 +33,11 @@ use Rattle.halls.specs.Step.{stateIn, rewritten, Stepped}
 use Rattle.halls.specs.declared.answer.Answer.the-variants.{Accepted, Refused}
 use Rattle.halls.specs.declared.check.Verdict.the-variants.{Sound}
 use Rattle.halls.specs.declared.find.FoundGeometry.the-variants.{Absent as NoGeometry}
-use Rattle.halls.proofs.ChangedLaws.{changedHall, bytesBefore, bytesBehind, bytes-changed, passes, image-changed, verdict-changed}
+use Rattle.halls.proofs.ChangedLaws.{changedHall, bytesBefore, bytesBehind, bytes-changed, image-changed, verdict-changed}
 use Rattle.halls.proofs.RewrittenLaws.{rewritten-start, rewritten-over}
-use Rattle.halls.proofs.SoundLaws.{SoundHall, SoundGeometry, verdict-sound}
-use Rattle.halls.proofs.SpotLaws.{Spot, not-there, contentHead, content-parts, content-head-length, spot-bytes, spot-inside, spot-sound, spot-count, spot-stride, spot-declaration, new-hall}
+use Rattle.halls.proofs.SoundLaws.{SoundGeometry}
+use Rattle.halls.proofs.SpotLaws.{Spot, not-there, overwrite-inside, spot-hall, spot-passes, contentHead, content-parts, content-head-length, spot-bytes, spot-inside, spot-sound, spot-count, spot-stride, spot-declaration, new-hall}
 use Rattle.halls.proofs.StepLaws.{hallIn, Old, stays-barred, becomes-new}
-
--- ---- bytes over bytes in the middle
-
-overwrite-inside : (a c z v : List ℕ) (i : ℕ) → i + length v ≤ length c → overwrite (a ++ (c ++ z)) (length a + i) v ≡ a ++ (overwrite c i v ++ z)
-unfolding overwrite
-overwrite-inside a c z v i h =
-    let k : i ≤ length c = omega arith in
-    let s : length a + i + length v ≡ length a + (i + length v) = omega arith in
-    rw (s, take-append-add a (c ++ z) i, drop-append-add a (c ++ z) (i + length v), take-append-le i c z, drop-append-le (i + length v) c z) (simp append-assoc)
 
 -- ---- the hall with other bytes in the geometry's vertex bytes
 
@@ -109,46 +99,40 @@ module _ {b : List ℕ} {n m g at : ℕ} (w : Spot b n m g at) (i : ℕ) (v : Li
 
   -- ---- it is sound
 
-  sound : SoundHall h
-  sound = verdict-sound h (w .old .sound)
-
-  passed : (test : FullGeometry → Bool) → everyGeometry test h ≡ true → test f ≡ true
-  passed test p = passes h m g x f (w .in-hall) (w .in-model) test p
-
   bytes-pass : vertexBytesExact y ≡ true
   unfolding vertexBytesExact
-  bytes-pass = rw same-length (passed vertexBytesExact (sound .vertex-bytes))
+  bytes-pass = rw same-length (spot-passes w vertexBytesExact (spot-hall w .vertex-bytes))
 
   strides-pass : stridesAgree y ≡ true
   unfolding stridesAgree
-  strides-pass = passed stridesAgree (sound .strides)
+  strides-pass = spot-passes w stridesAgree (spot-hall w .strides)
 
   components-pass : componentsInside y ≡ true
   unfolding componentsInside
-  components-pass = passed componentsInside (sound .components)
+  components-pass = spot-passes w componentsInside (spot-hall w .components)
 
   counts-pass : vertexCountsAgree y ≡ true
   unfolding vertexCountsAgree
-  counts-pass = rw same-length (passed vertexCountsAgree (sound .vertex-counts))
+  counts-pass = rw same-length (spot-passes w vertexCountsAgree (spot-hall w .vertex-counts))
 
   index-counts-pass : indexCountsAgree y ≡ true
   unfolding indexCountsAgree
-  index-counts-pass = passed indexCountsAgree (sound .index-counts)
+  index-counts-pass = spot-passes w indexCountsAgree (spot-hall w .index-counts)
 
   indices-pass : indicesInRange y ≡ true
   unfolding indicesInRange
-  indices-pass = rw same-length (passed indicesInRange (sound .indices))
+  indices-pass = rw same-length (spot-passes w indicesInRange (spot-hall w .indices))
 
   image-passes : imageWithinLimit (changedHall m g h x y) ≡ true
   unfolding imageWithinLimit geometrySize
   image-passes =
       let size : geometrySize y ≡ geometrySize f = rw same-length in
       let same : imageSize (changedHall m g h x y) ≡ imageSize h = omega (arith, image-changed h m g x f (w .in-hall) (w .in-model) y) in
-      rw same (sound .image)
+      rw same (spot-hall w .image)
 
   content-sound : verdict after ≡ Sound
   content-sound =
-      ap verdict (new-hall w changed refl) ∙ verdict-changed h m g x f (w .in-hall) (w .in-model) y sound refl bytes-pass strides-pass components-pass counts-pass
+      ap verdict (new-hall w changed refl) ∙ verdict-changed h m g x f (w .in-hall) (w .in-model) y (spot-hall w) refl bytes-pass strides-pass components-pass counts-pass
       ∙ rw (index-counts-pass, indices-pass, image-passes)
 
   -- a call that proposes it

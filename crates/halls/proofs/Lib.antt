@@ -44,3 +44,5 @@ pub mod AttributeSet
 pub mod FoundLaws
 pub mod CutLaws
 pub mod RemovedGeometry
+pub mod IndicesWritten
+pub mod NewIndices

@@ -13,7 +13,7 @@ use Rattle.halls.specs.ImageSize.{imageSize}
 use Rattle.halls.specs.Walk.{units, failing, verdictOf, limitsLowest}
 use Rattle.halls.specs.declared.check.Verdict.the-variants.{Sound}
 
-sixteenth : (x : ℕ) → leb (16 * x) 67108864 ≡ leb x 4194304
+pub sixteenth : (x : ℕ) → leb (16 * x) 67108864 ≡ leb x 4194304
 sixteenth x = on (leb x 4194304) refl
   where
     on : (t : Bool) → leb x 4194304 ≡ t → leb (16 * x) 67108864 ≡ t

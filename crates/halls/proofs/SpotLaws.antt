@@ -1,17 +1,19 @@
 -- A geometry that was found in a sound hall: what stands at its place, and the hall with another in it.
 use mathlib.Core.Path.{_≡_, refl, sym, ap, _∙_}
+use mathlib.Core.Bool.{Bool, true}
 use mathlib.Core.List.{List, _++_, map, append-assoc}
 use mathlib.Core.Option.{Option, none, some, Option·map}
 use Prim.Native.Nat.{ℕ, _+_, _^_, _≤_, _<_}
 use native.Mathlib.Omega.{arith}
 use lib.ListN.{length, take, drop, length-append, length-take, take-append-drop}
-use lib.Seq.{take-at, drop-at}
-use Rattle.sections.specs.Edit.{part}
+use lib.Seq.{take-at, take-append-add, take-append-le, drop-at, drop-append-add, drop-append-le}
+use Rattle.sections.specs.Edit.{part, overwrite}
 use Rattle.sections.specs.Le.{bytes, field}
 use Rattle.sections.proofs.LeLaws.{length-bytes}
 use Rattle.vertices.specs.Declaration.{declarationAt, declarationBytes}
 use Rattle.vertices.proofs.DeclarationLaws.{declaration-inverse, declaration-length}
 use Rattle.halls.specs.Calls.{replaced, withGeometries, withGeometry, onGeometry}
+use Rattle.halls.specs.Checks.{everyGeometry}
 use Rattle.halls.specs.Hall.{FullGeometry, FullModel, Hall, FullGeometryInWidth, FullModelInWidth, listedGeometry, hallBytes}
 use Rattle.halls.specs.List.{geometryBody, verticesBody, recordBytes, geometryRecord, declarationRecord, verticesRecord, indicesRecord, writeGeometry}
 use Rattle.halls.specs.Places.{item, placesFrom, geometryPlace, foundGeometry, GeometryIn}
@@ -21,11 +23,11 @@ use Rattle.halls.specs.Step.{stateIn}
 use Rattle.halls.specs.declared.find.GeometryPlace.{GeometryPlace}
 use Rattle.halls.specs.declared.find.FoundGeometry.the-variants.{At as GeometryAt, Absent as NoGeometry}
 use Rattle.halls.proofs.BodyLaws.{geometry-body-length, vertices-body-length}
-use Rattle.halls.proofs.ChangedLaws.{changedModel, changedHall, bytesBefore, bytesBehind, map-same, bytes-changed, before-length, same-hall}
+use Rattle.halls.proofs.ChangedLaws.{changedModel, changedHall, bytesBefore, bytesBehind, map-same, bytes-changed, before-length, same-hall, passes}
 use Rattle.halls.proofs.JudgingLaws.{declaration-part}
 use Rattle.halls.proofs.RecordLaws.{field-behind}
 use Rattle.halls.proofs.SoundEdits.{item-map, map-replaced, each-item, hall-item, hall-replaced}
-use Rattle.halls.proofs.SoundLaws.{SoundGeometry, SoundModel, verdict-sound, sound-models}
+use Rattle.halls.proofs.SoundLaws.{SoundHall, SoundGeometry, SoundModel, verdict-sound, sound-models}
 use Rattle.halls.proofs.StepLaws.{hallIn, Old}
 use Rattle.halls.proofs.ViewLaws.{record-length}
 
@@ -140,6 +142,17 @@ geometry-records f rest = simp append-assoc
 unfoldable pub contentHead : FullGeometry → List ℕ
 contentHead f = geometryRecord (listedGeometry f) ++ (declarationRecord (f .declaration) ++ verticesHead f)
 
+-- in it the numbers of indices and triangles
+abbrev pub headStart : FullGeometry → List ℕ
+headStart f = bytes 4 14 ++ (bytes 2 2 ++ bytes 2 (f .shader))
+
+abbrev pub headRest : FullGeometry → List ℕ
+headRest f = bytes 2 (f .vertexCount) ++ (bytes 2 (f .stride) ++ (declarationRecord (f .declaration) ++ verticesHead f))
+
+pub head-counts : (f : FullGeometry) → contentHead f ≡ headStart f ++ ((bytes 4 (f .indexCount) ++ bytes 4 (f .triangleCount)) ++ headRest f)
+unfolding contentHead
+head-counts f = two-parts f (declarationRecord (f .declaration) ++ verticesHead f) ∙ simp append-assoc
+
 pub content-parts : (f : FullGeometry) (rest : List ℕ) → writeGeometry (listedGeometry f) ++ rest ≡ contentHead f ++ (f .vertices .content ++ (indicesRecord (f .indices) ++ rest))
 unfolding contentHead
 content-parts f rest =
@@ -155,9 +168,18 @@ content-head-length f =
     let four : length (verticesHead f) ≡ 13 = simp (length-append, length-bytes) in
     rw (length-append (geometryRecord (listedGeometry f)), length-append (declarationRecord (f .declaration)), two, three, four)
 
+-- ---- bytes over bytes in the middle
+
+pub overwrite-inside : (a c z v : List ℕ) (i : ℕ) → i + length v ≤ length c → overwrite (a ++ (c ++ z)) (length a + i) v ≡ a ++ (overwrite c i v ++ z)
+unfolding overwrite
+overwrite-inside a c z v i h =
+    let k : i ≤ length c = omega arith in
+    let s : length a + i + length v ≡ length a + (i + length v) = omega arith in
+    rw (s, take-append-add a (c ++ z) i, drop-append-add a (c ++ z) (i + length v), take-append-le i c z, drop-append-le (i + length v) c z) (simp append-assoc)
+
 -- ---- what stands there
 
-field-there : (s p q r : List ℕ) (k v at i : ℕ) → at ≡ length p → length q ≡ i → v < 256 ^ k → s ≡ p ++ (q ++ (bytes k v ++ r)) → field k s (at + i) ≡ v
+pub field-there : (s p q r : List ℕ) (k v at i : ℕ) → at ≡ length p → length q ≡ i → v < 256 ^ k → s ≡ p ++ (q ++ (bytes k v ++ r)) → field k s (at + i) ≡ v
 field-there s p q r k v at i a b h e =
     let l : length (p ++ q) ≡ at + i = rw (length-append p q) (omega arith) in
     ap (λ (x : List ℕ). field k x (at + i)) (e ∙ sym (append-assoc p q (bytes k v ++ r))) ∙ field-behind (p ++ q) r k v (at + i) l h
@@ -197,9 +219,16 @@ module _ {b : List ℕ} {n m g at : ℕ} (w : Spot b n m g at) where
       ∙ rw (length-append before (contentHead f ++ (content ++ z)), length-append (contentHead f) (content ++ z), length-append content z, content-head-length f) in
       omega (arith, w .place, taken-length)
 
+  pub spot-hall : SoundHall h
+  spot-hall = verdict-sound h (w .old .sound)
+
+  -- what every geometry passes, it passes
+  pub spot-passes : (test : FullGeometry → Bool) → everyGeometry test h ≡ true → test f ≡ true
+  spot-passes test p = passes h m g x f (w .in-hall) (w .in-model) test p
+
   pub spot-sound : SoundGeometry f
   spot-sound =
-      let model : SoundModel x = each-item SoundModel m h x (w .in-hall) (sound-models h (verdict-sound h (w .old .sound))) in
+      let model : SoundModel x = each-item SoundModel m h x (w .in-hall) (sound-models h spot-hall) in
       each-item SoundGeometry g (x .geometries) f (w .in-model) (model .geometries)
 
   pub spot-in-width : FullGeometryInWidth f

@@ -20,3 +20,4 @@ pub mod Places
 pub mod Seeking
 pub mod Calls
 pub mod Step
+pub mod NewIndices

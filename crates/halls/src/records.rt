@@ -99,7 +99,7 @@ fn put_items(out: &mut [u8], at: usize, view: IndexView, raw: &[u8])
     }
 }
 
-fn put_head(out: &mut [u8], at: usize, body: u32, kind: u16)
+pub fn put_head(out: &mut [u8], at: usize, body: u32, kind: u16)
     requires { ⌜ at + 6 ≤ length (now out) ⌝ }
     ensures { λ _. ⌜ now (out .exit) ≡ overwrite (now (out .entry)) at (bytes 4 body ++ bytes 2 kind) ⌝ }
 {

@@ -107,7 +107,7 @@ fn cut_geometry(
 }
 
 // The bytes from `at` to `end` taken out of the first n.
-fn close_gap(hall: &mut [u8], n: usize, at: usize, end: usize)
+pub fn close_gap(hall: &mut [u8], n: usize, at: usize, end: usize)
     requires { ⌜ (at ≤ end) × (end ≤ n) × (n ≤ length (now hall)) ⌝ }
     ensures { λ _. ⌜ now (hall .exit) ≡ rewritten (now (hall .entry)) n (take at (take n (now (hall .entry))) ++ drop end (take n (now (hall .entry)))) ⌝ }
 {
