@@ -40,3 +40,5 @@ pub mod SpotLaws
 pub mod AttributeSet
 pub mod IndicesWritten
 pub mod NewIndices
+pub mod CutLaws
+pub mod RemovedGeometry

@@ -14,8 +14,8 @@ use Rattle.halls.specs.Calls.{removeModel, proposed, without}
 use Rattle.halls.specs.Checks.{geometryCount, countsWithinLimits}
 use Rattle.halls.specs.Hall.{FullModel, Hall, hallBytes}
 use Rattle.halls.specs.Places.{item, modelPlace, foundModel}
-use Rattle.halls.specs.Reading.{refused, read}
-use Rattle.halls.specs.State.{modelState, hallOf, stateOf}
+use Rattle.halls.specs.Reading.{read}
+use Rattle.halls.specs.State.{modelState}
 use Rattle.halls.specs.Step.{stateIn, rewritten, Stepped}
 use Rattle.halls.specs.declared.answer.Answer.{Answer}
 use Rattle.halls.specs.declared.answer.Answer.the-variants.{Accepted, Refused}

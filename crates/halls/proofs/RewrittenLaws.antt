@@ -11,6 +11,11 @@ use Rattle.sections.specs.Edit.{part, overwrite, fits, Edited}
 use Rattle.sections.proofs.EditLaws.{part-length, overwrite-length, overwrite-then, edited-fits}
 use Rattle.halls.specs.Step.{rewritten}
 
+-- only the bytes beyond n count of the old buffer
+pub rewritten-others : (b b′ : List ℕ) (n : ℕ) (w : List ℕ) → drop n b ≡ drop n b′ → length w ≤ n → rewritten b n w ≡ rewritten b′ n w
+unfolding rewritten
+rewritten-others b b′ n w e h = let m : max n (length w) ≡ n = omega arith in rw (m, e)
+
 module _ (b : List ℕ) (n : ℕ) where
   pub rewritten-start : n ≤ length b → rewritten b n (take n b) ≡ b
   unfolding rewritten

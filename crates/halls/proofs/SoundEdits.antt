@@ -1,5 +1,5 @@
 -- Edits of a hall that keep it sound: a model taken out, or another in its place that is no bigger. The list laws that they need come first.
-use mathlib.Core.Path.{_≡_, refl, sym, ap, _∙_, subst}
+use mathlib.Core.Path.{_≡_, refl, ap, _∙_, subst}
 use mathlib.Core.Bool.{Bool, true}
 use mathlib.Core.List.{List, [], _∷_, _++_, map, map-append}
 use mathlib.Core.Option.{none, some, Option·map}

@@ -59,7 +59,7 @@ shaders-of-state : (gs : List FullGeometry) → map (λ (g : Geometry). g .shade
 shaders-of-state [] = refl
 shaders-of-state (g ∷ gs) = rw (shaders-of-state gs)
 
-model-of-state : (m : FullModel) → SoundModel m → fullModel (modelState m) ≡ m
+pub model-of-state : (m : FullModel) → SoundModel m → fullModel (modelState m) ≡ m
 model-of-state m w =
     let made : List ℕ → List FullGeometry → FullModel = λ l gs. record { binding = m .binding; mask = m .mask; mapping = l; geometries = gs } in
     ap (λ (gs : List FullGeometry). made (map (λ (g : Geometry). g .shader) (map geometryState (m .geometries))) gs) (geometries-of-state (m .geometries) (w .geometries))

@@ -30,5 +30,6 @@ pub use list::hall_list;
 pub use model::bone_index;
 pub use model::is_skinned;
 pub use reader::ResReader;
+pub use remove::remove_geometry;
 pub use remove::remove_model;
 pub use triangles::triangle_count;
