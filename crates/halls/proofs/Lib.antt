@@ -46,3 +46,5 @@ pub mod CutLaws
 pub mod RemovedGeometry
 pub mod IndicesWritten
 pub mod NewIndices
+pub mod CutLaws
+pub mod RemovedGeometry
