@@ -1,20 +1,19 @@
--- New indices of a geometry: tested and written one by one, and the list's bytes with them.
-use mathlib.Core.Path.{_≡_, refl, sym, ap, _∙_}
+-- New indices of a geometry: their record, and the list's bytes with them.
+use mathlib.Core.Path.{_≡_, sym, ap, _∙_}
 use mathlib.Core.Bool.{Bool, true, false, _&&_}
-use mathlib.Core.List.{List, [], _∷_, _++_, append-assoc}
+use mathlib.Core.List.{List, _++_, append-assoc}
 use Prim.Native.Nat.{ℕ, _+_, _*_, _-_, _/_, _%_, _≤_, _<_, max}
-use native.Mathlib.Numerals.{add-one}
 use native.Mathlib.Omega.{arith}
-use borrow.Author.Tests.{eq-eqb, ne-eqb, le-leb, lt-leb, le-ltb, lt-ltb}
+use borrow.Author.Tests.{eq-eqb, ne-eqb, le-leb, lt-leb}
 use lib.Dec.{ltb}
-use lib.ListN.{length, take, drop, getD, length-append, length-drop, take-append-drop, drop-of-length-le}
-use lib.Seq.{take-suc, take-all, take-take, take-at, take-append-le, drop-at, drop-append-le, drop-cons, length-take-le}
+use lib.ListN.{length, take, drop, length-append, length-drop, take-append-drop}
+use lib.Seq.{take-take, take-at, take-append-le, drop-at, drop-append-le, length-take-le}
 use Rattle.sections.specs.Edit.{part, overwrite, fits, Edited}
 use Rattle.sections.specs.Le.{bytes}
-use Rattle.sections.proofs.EditLaws.{edited-behind, edited-fits, overwrite-length, overwrite-none, overwrite-then}
+use Rattle.sections.proofs.EditLaws.{edited-behind, edited-fits, overwrite-length, overwrite-then}
 use Rattle.sections.proofs.LeLaws.{length-bytes}
 use Rattle.vertices.specs.Runs.{run}
-use Rattle.vertices.proofs.RunLaws.{length-run, run-append, run-one}
+use Rattle.vertices.proofs.RunLaws.{length-run}
 use Rattle.halls.specs.Every.{every}
 use Rattle.halls.specs.List.{indicesBody, indicesRecord, recordBytes}
 use Rattle.halls.specs.NewIndices.{indicesVerdict, indicesOf, withNewIndices}
@@ -23,70 +22,6 @@ use Rattle.halls.specs.Walk.{units, verdictOf}
 use Rattle.halls.proofs.BodyLaws.{indices-body-length}
 use Rattle.halls.proofs.RewrittenLaws.{rewritten-length, rewritten-over}
 use Rattle.halls.proofs.ViewLaws.{record-length}
-
--- ---- all below a limit
-
--- the first i are
-pub record Scanned (xs : List ℕ) (limit i : ℕ) : Type 0 where
-  pub low : i ≤ length xs
-  pub is : every (λ (x : ℕ). ltb x limit) xs ≡ every (λ (x : ℕ). ltb x limit) (drop i xs)
-
-pub scanned-start : (xs : List ℕ) (limit : ℕ) → Scanned xs limit 0
-scanned-start xs limit = record { low = omega arith; is = refl }
-
-module _ {xs : List ℕ} {limit i : ℕ} (w : Scanned xs limit i) where
-  abbrev test : ℕ → Bool
-  test = λ x. ltb x limit
-
-  one-more : i < length xs → every test (drop i xs) ≡ (test (getD xs i 0) && every test (drop (i + 1) xs))
-  unfolding every
-  one-more h = rw (add-one, drop-cons xs i 0)
-
-  pub scanned-fails : i < length xs → limit ≤ getD xs i 0 → false ≡ every test xs
-  scanned-fails h l = sym (w .is ∙ one-more h ∙ rw (le-ltb (getD xs i 0) limit l))
-
-  pub scanned-more : i < length xs → getD xs i 0 < limit → Scanned xs limit (i + 1)
-  scanned-more h l = record { low = omega arith; is = w .is ∙ one-more h ∙ rw (lt-ltb (getD xs i 0) limit l) }
-
-  pub scanned-end : length xs ≤ i → true ≡ every test xs
-  unfolding every
-  scanned-end h = sym (w .is ∙ ap (every test) (drop-of-length-le xs h))
-
--- ---- put one behind the other
-
--- the first i are
-pub record Running (xs d : List ℕ) (at : ℕ) (b : List ℕ) (i : ℕ) : Type 0 where
-  pub room : at + length xs * 4 ≤ length d
-  pub low : i ≤ length xs
-  pub same : length b ≡ length d
-  pub is : b ≡ overwrite d at (run 4 (take i xs))
-
-pub running-start : (xs d : List ℕ) (at : ℕ) → at + length xs * 4 ≤ length d → Running xs d at d 0
-unfolding run
-running-start xs d at h = record { room = h; low = omega arith; same = refl; is = sym (overwrite-none d at) }
-
-module _ {xs d : List ℕ} {at : ℕ} {b : List ℕ} {i : ℕ} (w : Running xs d at b i) where
-  pub running-more : {t : List ℕ} → i < length xs → t ≡ overwrite b (at + i * 4) (bytes 4 (getD xs i 0)) → Running xs d at t (i + 1)
-  running-more {t} h e =
-      let one : List ℕ = bytes 4 (getD xs i 0) in
-      let four : length one ≡ 4 = length-bytes 4 (getD xs i 0) in
-      let taken : length (take i xs) ≡ i = length-take-le i xs (w .low) in
-      let long : length (run 4 (take i xs)) ≡ i * 4 = length-run 4 (take i xs) ∙ ap (λ (k : ℕ). k * 4) taken in
-      let next : run 4 (take i xs) ++ one ≡ run 4 (take (i + 1) xs) =
-      rw (add-one, take-suc xs i 0, run-append 4 (take i xs) (getD xs i 0 ∷ []), run-one 4 (getD xs i 0)) in
-      record {
-        room = w .room;
-        low = omega arith;
-        same = ap length e ∙ overwrite-length b (at + i * 4) one (omega (arith, w .room, w .same)) ∙ w .same;
-        is =
-            e ∙ ap (λ (x : List ℕ). overwrite x (at + i * 4) one) (w .is)
-            ∙ overwrite-then d at (i * 4) (run 4 (take i xs)) one long (omega (arith, w .room)) ∙ ap (overwrite d at) next;
-      }
-
-  pub running-end : length xs ≤ i → b ≡ overwrite d at (run 4 xs)
-  running-end h =
-      let all : take i xs ≡ xs = take-all i xs h in
-      w .is ∙ ap (λ (l : List ℕ). overwrite d at (run 4 l)) all
 
 -- ---- the tail moved
 

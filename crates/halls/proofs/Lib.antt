@@ -46,5 +46,3 @@ pub mod CutLaws
 pub mod RemovedGeometry
 pub mod IndicesWritten
 pub mod NewIndices
-pub mod CutLaws
-pub mod RemovedGeometry

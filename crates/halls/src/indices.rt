@@ -1,14 +1,11 @@
 // A geometry's indices replaced in place: what stands behind them moves up or down.
 ghost use mathlib.Core.Path.{_≡_};
 ghost use mathlib.Core.List.{_++_};
-ghost use Prim.Native.Nat.{ℕ, _+_, _*_, _-_, _<_, _≤_, _^_};
-ghost use lib.Dec.{ltb};
+ghost use Prim.Native.Nat.{_+_, _*_, _-_, _<_, _≤_, _^_};
 ghost use lib.ListN.{length, take, drop};
 ghost use Rattle.sections.specs.Edit.{overwrite};
-ghost use Rattle.vertices.specs.Runs.{run};
 ghost use Rattle.halls.specs.Calls.{replaceIndices};
 ghost use Rattle.halls.specs.Checks.{hallVerdict};
-ghost use Rattle.halls.specs.Every.{every};
 ghost use Rattle.halls.specs.List.{indicesRecord};
 ghost use Rattle.halls.specs.NewIndices.{indicesVerdict, indicesOf, withNewIndices};
 ghost use Rattle.halls.specs.Parsing.{modelsIn};
@@ -25,7 +22,8 @@ use crate::find::geometry_at;
 use crate::records::put_head;
 use crate::remove::close_gap;
 use crate::walk::Summary;
-use crate::widen::set_u32;
+use crate::words::put_words;
+use crate::words::words_below;
 use sections::copy_within;
 use sections::put_u32_le;
 use sections::u16_le;
@@ -114,7 +112,7 @@ fn indices_lowest(indices: &[u32], limit: u32, held: usize, found: Summary) -> u
     if indices.len() < 3 {
         return 17;
     }
-    if !all_below(indices, limit) {
+    if !words_below(indices, limit) {
         return 18;
     }
     let parts = found.units - (held + 7) / 8 + (indices.len() + 7) / 8;
@@ -122,19 +120,6 @@ fn indices_lowest(indices: &[u32], limit: u32, held: usize, found: Summary) -> u
         return 19;
     }
     20
-}
-
-fn all_below(indices: &[u32], limit: u32) -> bool
-    ensures { λ r. ⌜ r ≡ every (λ (i : ℕ). ltb i limit) (now (indices .entry)) ⌝ }
-{
-    let mut i = 0;
-    while i < indices.len() {
-        if limit <= indices[i] {
-            return false;
-        }
-        i += 1;
-    }
-    true
 }
 
 // The list's new bytes, where the indices' record begins at `start` and the lent buffer is long enough.
@@ -169,16 +154,5 @@ fn put_record(out: &mut [u8], at: usize, indices: &[u32])
     let count = indices.len() as u32;
     put_head(out, at, 4 + 4 * count, 5);
     put_u32_le(out, at + 6, count);
-    put_run(out, at + 10, indices);
-}
-
-fn put_run(out: &mut [u8], at: usize, items: &[u32])
-    requires { ⌜ at + length (now items) * 4 ≤ length (now out) ⌝ }
-    ensures { λ _. ⌜ now (out .exit) ≡ overwrite (now (out .entry)) at (run 4 (now (items .entry))) ⌝ }
-{
-    let mut i = 0;
-    while i < items.len() {
-        set_u32(out, at + i * 4, items[i]);
-        i += 1;
-    }
+    put_words(out, at + 10, indices);
 }

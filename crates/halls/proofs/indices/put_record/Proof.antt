@@ -11,7 +11,7 @@ returns c =
     let count = run .before .before .before .before in
     let head = count .before .before .before .before in
     let start = head .before .before .before .before in
-    record-put _ _ _ (start .pre .0) refl (head .put-head .ensures) (count .put-u32-le .ensures) (run .put-run .ensures)
+    record-put _ _ _ (start .pre .0) refl (head .put-head .ensures) (count .put-u32-le .ensures) (run .put-words .ensures)
 
 pub put-record-spec : {M : Type 1} → statement M
 put-record-spec =
