@@ -7,11 +7,9 @@ use native.Mathlib.Omega.{arith}
 use lib.ListN.{length, take, drop, length-append, take-append-drop}
 use lib.Seq.{drop-nil}
 use Rattle.sections.specs.Le.{field}
-use Rattle.sections.proofs.LeLaws.{length-bytes}
 use Rattle.vertices.specs.Declaration.{declarationBytes}
 use Rattle.vertices.proofs.DeclarationLaws.{declaration-length}
-use Rattle.vertices.proofs.RunLaws.{length-run}
-use Rattle.halls.specs.List.{Vertices, Geometry, Model, each, modelBody, geometryBody, verticesBody, indicesBody, modelRecord, geometryRecord, declarationRecord, verticesRecord, indicesRecord, writeGeometry, writeGeometries, writeModel}
+use Rattle.halls.specs.List.{each, modelBody, geometryBody, verticesBody, indicesBody, geometryRecord, declarationRecord, verticesRecord, indicesRecord, writeGeometry, writeGeometries}
 use Rattle.halls.specs.Hall.{FullGeometry, FullModel, Hall, listedGeometry, listedModel, hallBytes}
 use Rattle.halls.specs.HallRecords.{ofKind, geometriesRecords, hallRecords}
 use Rattle.halls.specs.Parsing.{recordsLength}
@@ -20,19 +18,12 @@ use Rattle.halls.specs.Seeking.{placeOf, sought}
 use Rattle.halls.specs.Places.{item, modelPlace, geometryPlace, foundModel, foundGeometry}
 use Rattle.halls.specs.declared.find.FoundModel.the-variants.{At as ModelAt, Absent as NoModel}
 use Rattle.halls.specs.declared.find.FoundGeometry.the-variants.{At as GeometryAt, Absent as NoGeometry}
+use Rattle.halls.proofs.BodyLaws.{model-body-length, geometry-body-length, vertices-body-length}
+use Rattle.halls.proofs.RecordBytes.{hall-length}
 use Rattle.halls.proofs.SeekLaws.{place-next, Stand, stand-front, stand-behind}
 use Rattle.halls.proofs.ViewLaws.{record-length}
 
 -- ---- lengths
-
-model-body : (m : Model) → length (modelBody m) ≡ 6 + 2 * length (m .mapping)
-model-body m = simp (length-append, length-bytes, length-run) (omega arith)
-
-geometry-body : (g : Geometry) → length (geometryBody g) ≡ 14
-geometry-body g = simp (length-append, length-bytes)
-
-vertices-body : (v : Vertices) → length (verticesBody v) ≡ 7 + length (v .content)
-vertices-body v = simp (length-append, length-bytes) (omega arith)
 
 records-length-append : (xs ys : List Record) → recordsLength (xs ++ ys) ≡ recordsLength xs + recordsLength ys
 unfolding recordsLength
@@ -43,14 +34,6 @@ geometries-length : (gs : List FullGeometry) → length (writeGeometries (map li
 unfolding each recordsLength geometriesRecords writeGeometry geometryRecord declarationRecord verticesRecord indicesRecord
 geometries-length [] = refl
 geometries-length (g ∷ gs) = let e = geometries-length gs in simp (length-append, record-length) (omega (arith, e))
-
-hall-length : (h : Hall) → length (hallBytes h) ≡ recordsLength (hallRecords h)
-unfolding hallBytes each recordsLength hallRecords writeModel modelRecord
-hall-length [] = refl
-hall-length (m ∷ ms) =
-    let e = hall-length ms in
-    let f = geometries-length (m .geometries) in
-    simp (length-append, record-length, records-length-append) (omega (arith, e, f))
 
 -- ---- the records of a hall in two parts
 
@@ -141,7 +124,7 @@ module _ (s : List ℕ) (h : Hall) (same : hallRecords h ≡ records s) (m : ℕ
       let all : Stand s 0 (hallRecords (take m h) ++ hallRecords (x ∷ xs)) = record { low = omega arith; are = sym same ∙ parts } in
       let here : Stand s at (hallRecords (x ∷ xs)) = rw place (stand-behind s 0 (hallRecords (take m h)) (hallRecords (x ∷ xs)) all) in
       let front = stand-front s at (ofKind 1 body) (geometriesRecords (x .geometries) ++ hallRecords xs) here in
-      let l : length body ≡ 6 + 2 * length (x .mapping) = model-body (listedModel x) in
+      let l : length body ≡ 6 + 2 * length (x .mapping) = model-body-length x in
       let n : at + (12 + 2 * length (x .mapping)) ≡ at + 6 + length body = omega (arith, l) in
       record { it = x; others = xs; is = e; place = omega (arith, place, hall-length (take m h)); length-is = front .length-is ∙ l; behind = rw n (front .behind) }
 
@@ -190,9 +173,9 @@ module _ (s : List ℕ) (start : ℕ) (gs : List FullGeometry) (ms : Hall) (w : 
       let second = stand-front s at (ofKind 2 two) (ofKind 3 three ∷ ofKind 4 four ∷ others) here .behind in
       let third = stand-front s (at + 6 + length two) (ofKind 3 three) (ofKind 4 four ∷ others) second .behind in
       let front = stand-front s (at + 6 + length two + 6 + length three) (ofKind 4 four) others third in
-      let l : length two ≡ 14 = geometry-body (listedGeometry x) in
+      let l : length two ≡ 14 = geometry-body-length x in
       let m : length three ≡ 16 = declaration-length (x .declaration) in
-      let n : length four ≡ 7 + length (x .vertices .content) = vertices-body (x .vertices) in
+      let n : length four ≡ 7 + length (x .vertices .content) = vertices-body-length (x .vertices) in
       let k : at + 42 ≡ at + 6 + length two + 6 + length three = omega (arith, l, m) in
       record {
         it = x;
