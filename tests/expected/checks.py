@@ -109,8 +109,11 @@ def position_size(g):
 def verdict(lent, n):
     """The lowest check that fails, or 0."""
     models = models_of(lent[:n]) if n <= len(lent) else None
-    if models is None:
-        return 11
+    return 11 if models is None else lowest(models)
+
+
+def lowest(models):
+    """The lowest of checks 12 to 19 that fails, or 0."""
     geometries = [g for model in models for g in model.geometries]
     holds = {
         12: all(model.mapping == [g.shader for g in model.geometries] for model in models),

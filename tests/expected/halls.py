@@ -6,7 +6,7 @@ It writes crates/halls_test/stdin, rows of seven little-endian u64 (what is call
 and crates/halls_test/stdout. The answers come from a reader written here from document 01 (`pieces`). Where cargo and the original Rust are at
 hand (rust/differential/README.md), the oracle is asked too, and the two must agree on every drawable. The Rust has no checks 1, 5 and 7: it is not asked
 about drawables that 1 or 5 refuse, nor about lists of 64 MiB and more, and of the others the whole list is compared.
-The rows of the hall check are made in checks.py; the Rust has no such check."""
+The rows of the hall check are made in checks.py, those of the calls and finders in calls.py; the Rust has neither."""
 import collections
 import functools
 import itertools
@@ -17,6 +17,7 @@ import struct
 import subprocess
 
 from blocks import declaration_bytes, field, find_buffer, gen9_block, legacy_block, record
+from calls import call_rows
 from checks import check_rows
 from rows import GRAPHICS, SYSTEM, U64, checksum, hexed, locate, packed_with, pattern, store
 
@@ -734,4 +735,6 @@ random_rows()
 ask_oracle()
 halls, verdicts = check_rows()
 print("%d of the rows are about the hall check" % len(halls))
-store("halls_test", rows + halls, lines + verdicts)
+calls, answers = call_rows()
+print("%d are about calls and finders" % len(calls))
+store("halls_test", rows + halls + calls, lines + verdicts + answers)

@@ -28,7 +28,7 @@ fn list_into<'a>(system: &'a [u8], graphics: &'a [u8], row: Row, list: &mut [u8]
 
 // The answer, the checksum of the whole buffer that the first d bytes were lent of, the triangles of an accepted list, and the
 // bytes of one of at most 256.
-fn answered(answer: Answer, list: &[u8]) {
+pub fn answered(answer: Answer, list: &[u8]) {
     match answer {
         Answer::Accepted(length) => {
             text(b" accepted");

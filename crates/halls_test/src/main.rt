@@ -1,7 +1,8 @@
-// Reads the drawables of standard input through the crate `halls`, checks its halls, and prints a line for each: what was asked, in
-// hexadecimal, and what was answered; of a drawable also the checksum of the list's buffer and a short list's bytes.
-// tests/expected/halls.py makes the drawables, the halls and the lines.
+// Reads the drawables of standard input through the crate `halls`, checks its halls, makes its calls, and prints a line for each: what
+// was asked, in hexadecimal, and what was answered; of a drawable or a call also the buffer's checksum and a short list's bytes.
+// tests/expected/halls.py makes the drawables, the halls, the calls and the lines.
 mod buffers;
+mod calls;
 mod checks;
 mod drawables;
 
@@ -19,6 +20,12 @@ fn run(row: Row, data: &[u8]) {
         2 => drawables::binding_row(row),
         3 => checks::check_row(row, data),
         4 => checks::long_check_row(row, data),
+        5 => calls::add_model_row(row, data),
+        6 => calls::remove_model_row(row, data),
+        7 => calls::remove_geometry_row(row, data),
+        8 => calls::set_attribute_row(row, data),
+        9 => calls::find_model_row(row, data),
+        10 => calls::find_geometry_row(row, data),
         _ => testing::text(b"unknown row\n"),
     }
 }
