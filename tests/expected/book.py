@@ -113,6 +113,12 @@ def set_attribute(hall, model, geometry, vertex, semantic, value):
     return replaced(hall, model, old._replace(geometries=replaced(old.geometries, geometry, g._replace(data=data))))
 
 
+def replace_indices(hall, model, geometry, indices):
+    old = present(hall, model)
+    g = present(old.geometries, geometry)
+    return replaced(hall, model, old._replace(geometries=replaced(old.geometries, geometry, g._replace(indices=tuple(indices)))))
+
+
 def answered(call, arguments, lent, n):
     """The hall after a call on the first n of the bytes lent."""
     check = checks.verdict(lent, n)

@@ -80,6 +80,12 @@ def set_attribute(buffer, n, room, model, geometry, vertex, semantic, value):
     return call_row(8, "set attribute", book.set_attribute, arguments, [model, geometry, vertex], buffer, n, room, more)
 
 
+def replace_indices(buffer, n, room, model, geometry, indices):
+    """The further arguments: how many indices, and six of which the call takes the first."""
+    more = struct.pack("<Q6I", len(indices), *indices, *[7] * (6 - len(indices)))
+    return call_row(11, "replace indices", book.replace_indices, [model, geometry, indices], [model, geometry], buffer, n, room, more)
+
+
 def found_row(kind, name, numbers, buffer, n, room, found):
     line = " absent" if found is None else " at" + hexed(*found)
     asked(kind, name, [n, room, *numbers], buffer, bytes(32), line)
@@ -268,6 +274,45 @@ def attribute_rows():
 # ---- unsound halls, finders, chains
 
 
+# ---- indices
+
+
+def index_rows():
+    for hall in [VECTOR, HALL, HALL[3:], HALL[:1]]:
+        n = book.length_of(hall)
+        buffer = buffer_of(book.written(hall))
+        for number, there in enumerate(hall):
+            for place, g in enumerate(there.geometries):
+                count, old = len(g.data) // g.stride, len(g.indices)
+                last = count - 1
+                for new in [[last, 0, last], [0, last, last, 0, 0, last]]:
+                    due = n + 4 * (len(new) - old)
+                    for room in [due, due - 1, due + 1, n, ROOM]:
+                        number_told = replace_indices(buffer, n, room, number, place, new)[2]
+                        assert number_told == (11 if room < n else 24 if room < due else 0)
+                for few in [0, 1, 2, 4, 5]:
+                    assert replace_indices(buffer, n, ROOM, number, place, [last] * few)[2] == 17
+                    assert replace_indices(buffer, n, ROOM, number, place, [count] * few)[2] == 17
+                for at in range(6):
+                    wrong = [last] * at + [[count, 65536, 0xFFFFFFFF][at % 3]] + [0] * (5 - at)
+                    # 18 comes before 24
+                    assert replace_indices(buffer, n, n, number, place, wrong)[2] == 18
+            assert replace_indices(buffer, n, ROOM, number, len(there.geometries), [0, 0, 0])[2] == 21
+        assert replace_indices(buffer, n, ROOM, len(hall), 0, [])[2] == 21
+    for huge in HUGE:
+        assert replace_indices(buffer, n, n, huge, 0, [0, 0, 0])[2] == replace_indices(buffer, n, n, 0, huge, [0, 0, 0])[2] == 21
+    for check, hall in damaged():
+        assert replace_indices(buffer_of(hall), len(hall), ROOM, 0, 0, [0, 0, 0])[2] == check
+        assert replace_indices(buffer_of(hall), len(hall), len(hall), 9, 0, [])[2] == check
+    # one call behind the other, longer and shorter in turn
+    pick = random.Random(5)
+    n = book.length_of(HALL)
+    buffer = buffer_of(book.written(HALL))
+    for turn in range(24):
+        number, place = pick.choice([(0, 0), (0, 1), (0, 2), (2, 0), (3, 0), (3, 1)])
+        buffer, n, _ = replace_indices(buffer, n, pick.choice([n, n + 12, ROOM]), number, place, [0] * pick.choice([3, 6]))
+
+
 def damaged():
     """Lists that fail one of checks 11 to 18, with its number."""
     sound = checks.hall_of([checks.geometry(1), checks.geometry(2)], [checks.geometry(3)])
@@ -351,6 +396,6 @@ def chain_rows():
 
 def call_rows():
     """The rows, and the lines that they must print."""
-    for make in [add_rows, many_rows, removal_rows, type_rows, attribute_rows, unsound_rows, finder_rows, chain_rows]:
+    for make in [add_rows, many_rows, removal_rows, type_rows, attribute_rows, index_rows, unsound_rows, finder_rows, chain_rows]:
         make()
     return list(rows), list(rows.values())

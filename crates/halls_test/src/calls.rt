@@ -92,12 +92,30 @@ fn set(hall: &mut [u8], row: Row, more: &[u8]) -> Answer {
     halls::set_attribute(hall, row.a as usize, row.c, row.d, row.e, semantic, value)
 }
 
+// The first of six indices, as many as the first number says.
+fn replaced(hall: &mut [u8], row: Row, more: &[u8]) -> Answer {
+    let count = u64_le(more, 0) as usize;
+    let indices = [
+        u32_le(more, 8),
+        u32_le(more, 12),
+        u32_le(more, 16),
+        u32_le(more, 20),
+        u32_le(more, 24),
+        u32_le(more, 28),
+    ];
+    if count < 6 {
+        return halls::replace_indices(hall, row.a as usize, row.c, row.d, &indices[..count]);
+    }
+    halls::replace_indices(hall, row.a as usize, row.c, row.d, &indices)
+}
+
 fn called(hall: &mut [u8], row: Row, more: &[u8]) -> Answer {
     let kind = row.kind;
     match kind {
         5 => added_model(hall, row),
         6 => halls::remove_model(hall, row.a as usize, row.c),
         7 => halls::remove_geometry(hall, row.a as usize, row.c, row.d),
+        11 => replaced(hall, row, more),
         _ => set(hall, row, more),
     }
 }
@@ -145,6 +163,15 @@ pub fn remove_geometry_row(row: Row, data: &[u8]) {
 pub fn set_attribute_row(row: Row, data: &[u8]) {
     text(b"set attribute");
     numbers(row, 5);
+    bytes(first(data, 32));
+    text(b":");
+    call_row(row, data);
+}
+
+// replace_indices, of geometry d of model c; the indices are further arguments.
+pub fn replace_indices_row(row: Row, data: &[u8]) {
+    text(b"replace indices");
+    numbers(row, 4);
     bytes(first(data, 32));
     text(b":");
     call_row(row, data);
