@@ -184,8 +184,9 @@ def many_rows():
     assert remove_model(buffer_of(full), len(full), ROOM, 256)[2] == 21
     find_model(buffer_of(full), len(full), ROOM, 256)
     more = book.written(hall + hall[:1])
-    for call in [add_model, lambda *a: remove_model(*a, 0), lambda *a: remove_geometry(*a, 0, 0)]:
-        assert call(buffer_of(more), len(more), ROOM)[2] == 13
+    for call, arguments in [(add_model, []), (remove_model, [0]), (remove_geometry, [0, 0]), (set_attribute, [0, 0, 0, 0, value_for(6)])]:
+        assert call(buffer_of(more), len(more), ROOM, *arguments)[2] == 13
+    find_model(buffer_of(more), len(more), ROOM, 0)
 
 
 def removal_rows():
