@@ -67,6 +67,23 @@ def add_model(hall, binding, mask):
     return hall + (Model(binding, mask, ()),)
 
 
+def add_geometry(hall, shader, declaration, stride, count, data, indices):
+    """Judged with the count and stride given: 11 is the lowest."""
+    if not hall:
+        raise Refused(21)
+    if len(data) != count * stride:
+        raise Refused(11)
+    given = checks.Geometry(shader, len(indices), len(indices) // 3, count, stride, *declaration, 0, stride, count, data, len(indices), list(indices))
+    models = listed_hall(hall)
+    models[-1].mapping.append(shader)
+    models[-1].geometries.append(given)
+    check = checks.lowest(models)
+    if check:
+        raise Refused(check)
+    last = hall[-1]
+    return hall[:-1] + (last._replace(geometries=last.geometries + (Geometry(shader, declaration, stride, data, tuple(indices)),)),)
+
+
 def present(items, number):
     if number >= len(items):
         raise Refused(21)

@@ -38,8 +38,8 @@ def changed(buffer):
 def asked(kind, name, numbers, buffer, more, line):
     data = more + changed(buffer)
     assert len(data) <= ROOM and len(buffer) == ROOM
-    # the further arguments are told where there are any
-    told = " " + more.hex() + ":" if any(more) else ""
+    # the further arguments are told where there are any, all but the vertex bytes
+    told = " " + more[:56].hex() + ":" if any(more) else ""
     rows[packed_with(kind, numbers, data)] = name + hexed(*numbers) + ":" + told + line
 
 
@@ -61,6 +61,15 @@ def call_row(kind, name, call, arguments, numbers, buffer, n, room, more=bytes(3
 
 def add_model(buffer, n, room, binding=0xA1B2C3D4, mask=0xE5F6):
     return call_row(5, "add model", book.add_model, [binding, mask], [binding, mask], buffer, n, room)
+
+
+def add_geometry(buffer, n, room, g, count=None):
+    """The further arguments: declaration, length of the vertex bytes, how many indices, and six of which the call takes the first; then the vertex bytes."""
+    given = len(g.data) // g.stride if count is None else count
+    numbers = [g.shader, g.stride, given]
+    more = struct.pack("<IHBBQ2Q6I", *g.declaration, len(g.data), len(g.indices), *g.indices, *[7] * (6 - len(g.indices))) + g.data
+    arguments = [g.shader, g.declaration, g.stride, given, g.data, g.indices]
+    return call_row(12, "add geometry", book.add_geometry, arguments, numbers, buffer, n, room, more)
 
 
 def remove_model(buffer, n, room, model):
@@ -168,6 +177,61 @@ def add_rows():
     # n = 0: the buffer's content is no hall's
     for room in [0, 1, 11, 12, 13, 127, ROOM]:
         assert add_model(buffer, 0, room)[2] == (24 if room < 12 else 0)
+
+
+def given_rows():
+    """Geometries added."""
+    every = [geometry(7), geometry(0xFFFF, 1, 1, 1, 2), EVERY, geometry(9, 4, 2, 0x8001, 0x8000000000000007, 5), geometry(2, 5, 1, 0x10001, 3)]
+    for hall in [VECTOR, HALL, HALL[:2], HALL[:1]]:
+        n = book.length_of(hall)
+        buffer = buffer_of(book.written(hall))
+        for g in every:
+            due = n + 2 + book.geometry_length(g)
+            for room in [due, due - 1, due + 1, n, ROOM]:
+                assert add_geometry(buffer, n, room, g)[2] == (24 if room < due else 0)
+        # one behind the other
+        after, new = buffer, n
+        for g in every:
+            after, new, number = add_geometry(after, new, ROOM, g)
+            assert number == 0
+    n = book.length_of(HALL)
+    buffer = buffer_of(book.written(HALL))
+    plain = geometry(7, 4, 2)
+    wrong = plain.declaration
+    for check, g, count in [
+        (11, plain, 3),
+        (11, plain, 5),
+        (11, plain, 0),
+        (11, plain, 0xFFFFFFFF),
+        (11, plain._replace(data=plain.data + b"a"), 4),
+        (11, plain._replace(data=b""), 4),
+        (11, plain._replace(stride=11), 4),
+        (14, plain._replace(declaration=wrong._replace(stride=13)), None),
+        (14, plain._replace(declaration=wrong._replace(stride=0)), None),
+        (14, plain._replace(stride=24, data=plain.data * 2), None),
+        (14, plain._replace(stride=0, data=b""), 4),
+        (15, plain._replace(declaration=wrong._replace(flags=0)), None),
+        (15, plain._replace(declaration=wrong._replace(flags=2)), None),
+        (15, plain._replace(declaration=wrong._replace(types=0)), None),
+        (15, plain._replace(declaration=wrong._replace(types=7)), None),
+        (15, plain._replace(declaration=wrong._replace(flags=3, types=0x26)), None),
+        (15, plain._replace(declaration=wrong._replace(stride=0), stride=0, data=b""), 0xFFFFFFFF),
+        (16, plain._replace(data=b""), 0),
+        (17, plain._replace(indices=()), None),
+        (17, plain._replace(indices=(0,)), None),
+        (17, plain._replace(indices=(0, 0, 0, 0)), None),
+        (17, plain._replace(indices=(4, 4)), None),
+        (18, plain._replace(indices=(0, 0, 4)), None),
+        (18, plain._replace(indices=(0xFFFFFFFF, 0, 0)), None),
+        (18, plain._replace(indices=(0, 0, 3, 3, 2, 65536)), None),
+    ]:
+        assert add_geometry(buffer, n, n, g, count)[2] == check
+        assert add_geometry(buffer, n, ROOM, g, count)[2] == check
+    # without any model, even where the geometry is wrong too
+    for g, count in [(plain, None), (plain, 3)]:
+        assert add_geometry(buffer_of(b""), 0, ROOM, g, count)[2] == 21
+    for check, hall in damaged():
+        assert add_geometry(buffer_of(hall), len(hall), ROOM, plain, 3)[2] == check
 
 
 def many_rows():
@@ -397,6 +461,6 @@ def chain_rows():
 
 def call_rows():
     """The rows, and the lines that they must print."""
-    for make in [add_rows, many_rows, removal_rows, type_rows, attribute_rows, index_rows, unsound_rows, finder_rows, chain_rows]:
+    for make in [add_rows, given_rows, many_rows, removal_rows, type_rows, attribute_rows, index_rows, unsound_rows, finder_rows, chain_rows]:
         make()
     return list(rows), list(rows.values())

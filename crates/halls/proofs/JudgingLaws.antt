@@ -25,7 +25,7 @@ use Rattle.vertices.proofs.TypeLaws.{size-bound}
 use Rattle.halls.specs.Checks.{stridesAgree, componentsInside, vertexCountsAgree, indexCountsAgree, indicesInRange, hasSize}
 use Rattle.halls.specs.Every.{every}
 use Rattle.halls.specs.Hall.{FullGeometry}
-use Rattle.halls.specs.Judging.{GeometryFront, HeadJudged, HeadTested, frontGeometry, headOf, lowestOf, passed}
+use Rattle.halls.specs.Judging.{insideStride, GeometryFront, HeadJudged, HeadTested, frontGeometry, headOf, lowestOf, passed}
 use Rattle.halls.specs.Triangles.{heldCount}
 use Rattle.halls.specs.declared.judge.GeometryHead.{GeometryHead}
 
@@ -144,7 +144,7 @@ abbrev stridesTest : GeometryHead → Bool
 stridesTest h = eqb (h .layout) 0 && (eqb (h .declaration .stride) (h .stride) && eqb (h .«vertices_stride») (h .stride))
 
 abbrev componentsTest : GeometryHead → Bool
-componentsTest h = hasSize (componentOf (h .declaration) 0) && leb (totalSize (h .declaration)) (h .stride)
+componentsTest h = insideStride (h .declaration) (h .stride)
 
 abbrev verticesTest : GeometryHead → Bool
 verticesTest h = eqb (h .«vertex_count») (h .«vertices_count») && (leb 1 (h .«vertices_count») && leb (h .«vertices_count») 65535)
@@ -158,7 +158,7 @@ module _ (h : GeometryHead) {r : Bool} where
   strides-tested e = record { answer = λ g q. e ∙ ap stridesTest q }
 
   pub components-tested : r ≡ componentsTest h → HeadTested componentsInside h r
-  unfolding componentsInside
+  unfolding componentsInside insideStride
   components-tested e = record { answer = λ g q. e ∙ ap componentsTest q }
 
   pub vertices-tested : r ≡ verticesTest h → HeadTested vertexCountsAgree h r

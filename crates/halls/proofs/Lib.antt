@@ -46,3 +46,4 @@ pub mod CutLaws
 pub mod RemovedGeometry
 pub mod IndicesWritten
 pub mod NewIndices
+pub mod AddedGeometry

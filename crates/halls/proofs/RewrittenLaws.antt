@@ -49,6 +49,15 @@ module _ (b : List ℕ) (n : ℕ) where
       let m₂ : max n (length w + length v) ≡ length w + length v = omega arith in
       rw (l, o, o₂, m, m₂, take-at w (drop (length w) b) (length w) refl, drop-append-add w (drop (length w) b) (length v), drop-drop (length v) (length w) b) (simp append-assoc)
 
+  -- bytes over the last ones of the old hall and behind it
+  pub rewritten-opened : (at : ℕ) (v : List ℕ) → at ≤ n → n ≤ length b → n ≤ at + length v → overwrite b at v ≡ rewritten b n (take at b ++ v)
+  unfolding rewritten overwrite
+  rewritten-opened at v h k l =
+      let long : length (take at b ++ v) ≡ at + length v = simp (length-append, length-take) (omega arith) in
+      let z : n - (at + length v) ≡ 0 = omega arith in
+      let m : max n (at + length v) ≡ at + length v = omega arith in
+      rw (long, z, m) (simp append-assoc)
+
   -- what moves down, and where it ends
   closed-moved : (w : List ℕ) (end : ℕ) → end ≤ length w → part (rewritten b n w) end (length w - end) ≡ drop end w
   unfolding rewritten part

@@ -158,7 +158,7 @@ hall-bytes-append xs ys = rw (map-append listedModel xs ys) (each-append writeMo
 
 -- ---- a hall whose models are sound, within the limits
 
-same-itself : (xs : List ℕ) → sameNumbers xs xs ≡ true
+pub same-itself : (xs : List ℕ) → sameNumbers xs xs ≡ true
 unfolding sameNumbers
 same-itself [] = refl
 same-itself (x ∷ xs) = rw (eq-eqb x x refl, same-itself xs)

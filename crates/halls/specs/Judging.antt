@@ -3,11 +3,13 @@ use mathlib.Core.Path.{_≡_}
 use mathlib.Core.Bool.{Bool, cond, _&&_}
 use mathlib.Core.List.{List}
 use Prim.Native.Nat.{ℕ, _+_, _*_, _-_, _/_, _≤_}
-use lib.Dec.{eqb}
+use lib.Dec.{eqb, leb}
 use lib.ListN.{length}
 use Rattle.sections.specs.Edit.{part, fits}
 use Rattle.sections.specs.Le.{field}
-use Rattle.halls.specs.Checks.{stridesAgree, componentsInside, vertexCountsAgree, indexCountsAgree, indicesInRange}
+use Rattle.vertices.specs.Declaration.{componentOf, totalSize}
+use Rattle.vertices.specs.declared.declaration.VertexDeclaration.{VertexDeclaration}
+use Rattle.halls.specs.Checks.{vertexBytesExact, stridesAgree, hasSize, componentsInside, vertexCountsAgree, indexCountsAgree, indicesInRange}
 use Rattle.halls.specs.Hall.{FullGeometry}
 use Rattle.halls.specs.Parsing.{geometryIn}
 use Rattle.halls.specs.declared.judge.GeometryHead.{GeometryHead}
@@ -24,6 +26,14 @@ headLowest g next = cond (stridesAgree g) (cond (componentsInside g) (cond (vert
 
 unfoldable pub lowestOf : FullGeometry → ℕ
 lowestOf g = headLowest g (cond (indicesInRange g) passed 18)
+
+-- check 15 by declaration and stride
+unfoldable pub insideStride : VertexDeclaration → ℕ → Bool
+insideStride d stride = hasSize (componentOf d 0) && leb (totalSize d) stride
+
+-- with check 11, where the vertex bytes are given
+unfoldable pub givenLowest : FullGeometry → ℕ
+givenLowest g = cond (vertexBytesExact g) (lowestOf g) 11
 
 -- its numbers, without vertex bytes and indices
 abbrev pub headOf : FullGeometry → GeometryHead

@@ -1,8 +1,8 @@
 // Checks 14 to 18 of one geometry.
 ghost use mathlib.Core.Path.{_≡_};
 ghost use Rattle.vertices.specs.Declaration.{totalSize};
-ghost use Rattle.halls.specs.Checks.{stridesAgree, componentsInside, vertexCountsAgree, indexCountsAgree};
-ghost use Rattle.halls.specs.Judging.{GeometryFront, HeadJudged, HeadTested, frontGeometry, headOf, lowestOf};
+ghost use Rattle.halls.specs.Checks.{stridesAgree, vertexCountsAgree, indexCountsAgree};
+ghost use Rattle.halls.specs.Judging.{GeometryFront, HeadJudged, HeadTested, frontGeometry, headOf, insideStride, lowestOf};
 use crate::scan::indices_below;
 use sections::u8_le;
 use sections::u16_le;
@@ -70,7 +70,7 @@ pub fn head_lowest(head: GeometryHead) -> u8
     if !strides_agree(head) {
         return 14;
     }
-    if !components_inside(head) {
+    if !components_inside(head.declaration, head.stride) {
         return 15;
     }
     if !vertex_counts_agree(head) {
@@ -94,15 +94,16 @@ fn strides_agree(head: GeometryHead) -> bool
     head.vertices_stride == head.stride
 }
 
-fn components_inside(head: GeometryHead) -> bool
-    ensures { λ r. ⌜ HeadTested componentsInside head r ⌝ }
+// Check 15: the position has a size, and all components together are no longer than the stride.
+pub fn components_inside(declaration: VertexDeclaration, stride: u16) -> bool
+    ensures { λ r. ⌜ r ≡ insideStride declaration stride ⌝ }
 {
-    match head.declaration.component(0) {
+    match declaration.component(0) {
         FoundComponent::Component(position) => {
             if position.size == 0 {
                 return false;
             }
-            total_size(head.declaration) <= head.stride as usize
+            total_size(declaration) <= stride as usize
         }
         FoundComponent::Missing => false,
     }

@@ -14,6 +14,7 @@ use crate::view::GeometryView;
 use crate::view::IndexView;
 use crate::view::held;
 use crate::widen::put_widened;
+use crate::words::put_words;
 use sections::copy_into;
 use sections::put_u8_le;
 use sections::put_u16_le;
@@ -69,10 +70,31 @@ pub fn put_vertices(out: &mut [u8], at: usize, buffer: VertexBuffer, content: &[
     ensures { λ _. ⌜ now (out .exit) ≡ overwrite (now (out .entry)) at (verticesRecord (record { layout = layoutNumber (buffer .layout); stride = buffer .«vertex_stride»; count = buffer .«vertex_count»; content = now (content .entry) })) ⌝ }
 {
     let layout = buffer.layout;
+    put_vertex_bytes(
+        out,
+        at,
+        layout.number(),
+        buffer.vertex_stride,
+        buffer.vertex_count,
+        content,
+    );
+}
+
+pub fn put_vertex_bytes(
+    out: &mut [u8],
+    at: usize,
+    layout: u8,
+    stride: u16,
+    count: u32,
+    content: &[u8],
+)
+    requires { ⌜ (at + (13 + length (now content)) ≤ length (now out)) × (length (now content) < 2 ^ 31) ⌝ }
+    ensures { λ _. ⌜ now (out .exit) ≡ overwrite (now (out .entry)) at (verticesRecord (record { layout = layout; stride = stride; count = count; content = now (content .entry) })) ⌝ }
+{
     put_head(out, at, (7 + content.len()) as u32, 4);
-    put_u8_le(out, at + 6, layout.number());
-    put_u16_le(out, at + 7, buffer.vertex_stride);
-    put_u32_le(out, at + 9, buffer.vertex_count);
+    put_u8_le(out, at + 6, layout);
+    put_u16_le(out, at + 7, stride);
+    put_u32_le(out, at + 9, count);
     copy_into(out, at + 13, content);
 }
 
@@ -84,6 +106,17 @@ pub fn put_indices(out: &mut [u8], at: usize, view: IndexView, raw: &[u8])
     put_head(out, at, 4 + 4 * held(view), 5);
     put_u32_le(out, at + 6, view.count);
     put_items(out, at + 10, view, raw);
+}
+
+// The same of indices that a caller lends.
+pub fn put_lent_indices(out: &mut [u8], at: usize, indices: &[u32])
+    requires { ⌜ (at + (10 + 4 * length (now indices)) ≤ length (now out)) × (length (now indices) < 2 ^ 29) ⌝ }
+    ensures { λ _. ⌜ now (out .exit) ≡ overwrite (now (out .entry)) at (indicesRecord (record { count = length (now (indices .entry)); items = now (indices .entry) })) ⌝ }
+{
+    let held = indices.len() as u32;
+    put_head(out, at, 4 + 4 * held, 5);
+    put_u32_le(out, at + 6, held);
+    put_words(out, at + 10, indices);
 }
 
 fn put_items(out: &mut [u8], at: usize, view: IndexView, raw: &[u8])

@@ -107,7 +107,7 @@ fn unanswered(left: usize) -> u8
     12
 }
 
-fn one_less(n: usize) -> usize
+pub fn one_less(n: usize) -> usize
     ensures { λ r. ⌜ r ≡ n - 1 ⌝ }
 {
     if n == 0 {
@@ -116,7 +116,7 @@ fn one_less(n: usize) -> usize
     n - 1
 }
 
-fn lower(a: u8, b: u8) -> u8
+pub fn lower(a: u8, b: u8) -> u8
     ensures { λ r. ⌜ r ≡ min a b ⌝ }
 {
     if a < b {

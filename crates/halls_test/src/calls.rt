@@ -1,5 +1,5 @@
 // Rows about the calls that change a hall and about its finders. The first a bytes of the b lent, at most 4,096, are the hall.
-// A row's bytes are 32 that hold further arguments, then how the buffer begins; a pattern follows.
+// A row's bytes are further arguments, 32 but for an added geometry, then how the buffer begins; a pattern follows.
 use crate::buffers::list_buffer;
 use crate::drawables::answered;
 use halls::Answer;
@@ -23,9 +23,9 @@ use vertices::Vec3;
 use vertices::Vec4;
 use vertices::VertexAttributeValue;
 
-fn hall_buffer(data: &[u8]) -> [u8; 4096] {
+fn hall_buffer(data: &[u8], at: usize) -> [u8; 4096] {
     let mut b = list_buffer();
-    sections::copy_into(&mut b, 0, rest(data, 32));
+    sections::copy_into(&mut b, 0, rest(data, at));
     b
 }
 
@@ -92,21 +92,51 @@ fn set(hall: &mut [u8], row: Row, more: &[u8]) -> Answer {
     halls::set_attribute(hall, row.a as usize, row.c, row.d, row.e, semantic, value)
 }
 
+fn six_in(more: &[u8], at: usize) -> [u32; 6] {
+    let raw = rest(more, at);
+    [
+        u32_le(raw, 0),
+        u32_le(raw, 4),
+        u32_le(raw, 8),
+        u32_le(raw, 12),
+        u32_le(raw, 16),
+        u32_le(raw, 20),
+    ]
+}
+
+fn first_words<'a>(words: &'a [u32], n: usize) -> &'a [u32] {
+    if n < words.len() {
+        return &words[..n];
+    }
+    words
+}
+
 // The first of six indices, as many as the first number says.
 fn replaced(hall: &mut [u8], row: Row, more: &[u8]) -> Answer {
-    let count = u64_le(more, 0) as usize;
-    let indices = [
-        u32_le(more, 8),
-        u32_le(more, 12),
-        u32_le(more, 16),
-        u32_le(more, 20),
-        u32_le(more, 24),
-        u32_le(more, 28),
-    ];
-    if count < 6 {
-        return halls::replace_indices(hall, row.a as usize, row.c, row.d, &indices[..count]);
-    }
-    halls::replace_indices(hall, row.a as usize, row.c, row.d, &indices)
+    let six = six_in(more, 8);
+    let indices = first_words(&six, u64_le(more, 0) as usize);
+    halls::replace_indices(hall, row.a as usize, row.c, row.d, indices)
+}
+
+// The vertex bytes stand behind the 56 bytes of the other arguments.
+fn added_geometry(hall: &mut [u8], row: Row, more: &[u8]) -> Answer {
+    let shader = (row.c % 65536) as u16;
+    let stride = (row.d % 65536) as u16;
+    let count = (row.e % 4294967296) as u32;
+    let declaration = vertices::read_declaration(more, 0);
+    let six = six_in(more, 32);
+    let indices = first_words(&six, u64_le(more, 24) as usize);
+    let content = rest(more, 56);
+    halls::add_geometry(
+        hall,
+        row.a as usize,
+        shader,
+        declaration,
+        stride,
+        count,
+        content,
+        indices,
+    )
 }
 
 fn called(hall: &mut [u8], row: Row, more: &[u8]) -> Answer {
@@ -116,6 +146,7 @@ fn called(hall: &mut [u8], row: Row, more: &[u8]) -> Answer {
         6 => halls::remove_model(hall, row.a as usize, row.c),
         7 => halls::remove_geometry(hall, row.a as usize, row.c, row.d),
         11 => replaced(hall, row, more),
+        12 => added_geometry(hall, row, more),
         _ => set(hall, row, more),
     }
 }
@@ -133,7 +164,7 @@ fn called_first(b: &mut [u8], row: Row, more: &[u8]) -> Answer {
 }
 
 fn call_row(row: Row, data: &[u8]) {
-    let mut b = hall_buffer(data);
+    let mut b = hall_buffer(data, 32);
     let answer = called_first(&mut b, row, first(data, 32));
     answered(answer, &b);
 }
@@ -143,6 +174,18 @@ pub fn add_model_row(row: Row, data: &[u8]) {
     text(b"add model");
     numbers(row, 4);
     call_row(row, data);
+}
+
+// add_geometry, with shader c, stride d and count e; the others are further arguments, 56 bytes and the vertex bytes.
+pub fn add_geometry_row(row: Row, data: &[u8]) {
+    let end = 56 + (u64_le(data, 16) % 4096) as usize;
+    let mut b = hall_buffer(data, end);
+    text(b"add geometry");
+    numbers(row, 5);
+    bytes(first(data, 56));
+    text(b":");
+    let answer = called_first(&mut b, row, first(data, end));
+    answered(answer, &b);
 }
 
 // remove_model, of model c.
@@ -179,7 +222,7 @@ pub fn replace_indices_row(row: Row, data: &[u8]) {
 
 // find_model, of model c.
 pub fn find_model_row(row: Row, data: &[u8]) {
-    let b = hall_buffer(data);
+    let b = hall_buffer(data, 32);
     text(b"find model");
     numbers(row, 3);
     match halls::find_model(first(&b, row.b as usize), row.a as usize, row.c) {
@@ -203,7 +246,7 @@ fn places(p: GeometryPlace) {
 
 // find_geometry, of geometry d of model c.
 pub fn find_geometry_row(row: Row, data: &[u8]) {
-    let b = hall_buffer(data);
+    let b = hall_buffer(data, 32);
     text(b"find geometry");
     numbers(row, 4);
     match halls::find_geometry(first(&b, row.b as usize), row.a as usize, row.c, row.d) {

@@ -27,6 +27,7 @@ fn run(row: Row, data: &[u8]) {
         9 => calls::find_model_row(row, data),
         10 => calls::find_geometry_row(row, data),
         11 => calls::replace_indices_row(row, data),
+        12 => calls::add_geometry_row(row, data),
         _ => testing::text(b"unknown row\n"),
     }
 }

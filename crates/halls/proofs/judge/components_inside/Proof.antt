@@ -2,22 +2,29 @@
 use mathlib.Core.Path.{sym, _∙_}
 use borrow.Author.Needs.{needs}
 use Rattle.vertices.specs.Declaration.{componentOf}
-use Rattle.halls.proofs.JudgingLaws.{components-tested, position-missing, position-empty, position-sized}
+use Rattle.halls.specs.Judging.{insideStride}
+use Rattle.halls.proofs.JudgingLaws.{position-missing, position-empty, position-sized}
 use Rattle.halls.proofs.judge.components_inside.Statement.{statement}
 use Rattle.halls.proofs.judge.components_inside.Tie as tie
 
 empty : tie.Need-returns
+unfolding insideStride
 empty c =
     let found = c .before .before .before in
     let e = sym (found .position .given .1) ∙ found .before .before .component .ensures in
-    components-tested _ (rw (position-empty (componentOf _ 0) _ e (c .if1 .taken)))
+    rw (position-empty (componentOf _ 0) _ e (c .if1 .taken))
 
 inside : tie.Need-returns-2
+unfolding insideStride
 inside c =
-    let sized = c .before .before in
+    let sized = c .before in
     let found = sized .before .before .before in
     let e = sym (found .position .given .1) ∙ found .before .before .component .ensures in
-    components-tested _ (rw (position-sized (componentOf _ 0) _ e (sized .if1 .left), ← c .before .total-size .ensures))
+    rw (position-sized (componentOf _ 0) _ e (sized .if1 .left), ← c .total-size .ensures)
+
+missing : tie.Need-returns-3
+unfolding insideStride
+missing c = rw (position-missing (componentOf _ 0) (sym (c .enum-told .given .1) ∙ c .before .before .component .ensures))
 
 pub components-inside-spec : {M : Type 1} → statement M
 components-inside-spec =
@@ -28,6 +35,5 @@ components-inside-spec =
     empty
     (λ c κs. search needs)
     (λ c. search needs)
-    (λ c. search needs)
     inside
-    (λ c. components-tested _ (rw (position-missing (componentOf _ 0) (sym (c .enum-told .given .1) ∙ c .before .before .component .ensures)))))
+    missing)
