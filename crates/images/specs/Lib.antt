@@ -1,0 +1,4 @@
+pub mod Image
+pub mod Saving
+pub mod Runs
+pub mod Claim

@@ -1,0 +1,1 @@
+// Images: a hall saved as a drawable's system section.
