@@ -21,3 +21,4 @@ pub mod Seeking
 pub mod Calls
 pub mod Step
 pub mod NewIndices
+pub mod Taking

@@ -8,6 +8,7 @@ mod front;
 mod given;
 mod indices;
 mod judge;
+mod judge_read;
 mod list;
 mod measure;
 mod model;
