@@ -4,19 +4,25 @@ use mathlib.Core.Option.{Option, none, some, Option·map}
 use Prim.Native.Nat.{ℕ, _+_, _*_, min}
 use lib.ListN.{length}
 use Rattle.sections.specs.Address.{Sections}
+use Rattle.sections.specs.Lists.{headerAt}
+use Rattle.sections.specs.declared.lists.FoundHeader.{FoundHeader}
+use Rattle.sections.specs.declared.lists.FoundHeader.the-variants.{Header, Unresolved}
+use Rattle.sections.specs.declared.lists.PointerListHeader.{PointerListHeader}
 use Rattle.halls.specs.Calls.{takenGeometry}
 use Rattle.halls.specs.Hall.{FullGeometry, listedGeometry}
 use Rattle.halls.specs.Judging.{passed, lowestOf}
-use Rattle.halls.specs.List.{Vertices, Indices, Geometry, Model, optional, each, recordBytes, writeGeometry}
+use Rattle.halls.specs.List.{Vertices, Indices, Geometry, Model, optional, each, recordBytes, geometryRecord, declarationRecord, verticesRecord, indicesRecord, writeGeometry}
 use Rattle.sections.specs.Le.{bytes}
 use Rattle.vertices.specs.Runs.{run}
 use Rattle.halls.specs.Reading.{storedIn, verticesOf}
-use Rattle.halls.specs.View.{indicesSeen, bufferIn}
+use Rattle.halls.specs.View.{indicesIn, indicesSeen, bufferIn, numbersSeen}
 use Rattle.halls.specs.Walk.{modelUnits, geometryUnits}
 use Rattle.halls.specs.declared.judge_read.Taken.{Taken}
 use Rattle.halls.specs.declared.view.FoundIndices.{FoundIndices}
 use Rattle.halls.specs.declared.view.FoundIndices.the-variants.{Indices as Seen, Absent as Unseen}
 use Rattle.halls.specs.declared.view.GeometryView.{GeometryView}
+use Rattle.halls.specs.declared.view.IndexView.{IndexView}
+use Rattle.vertices.specs.declared.declaration.VertexDeclaration.{VertexDeclaration}
 
 -- ---- the geometry that a view shows
 
@@ -95,3 +101,18 @@ geometryBytes g = optional (λ (f : FullGeometry). writeGeometry (listedGeometry
 unfoldable pub modelBytes : Model → List ℕ
 modelBytes m =
     recordBytes 1 (bytes 4 (m .binding) ++ (bytes 2 (m .mask) ++ run 2 (map (λ (g : Geometry). g .shader) (m .geometries)))) ++ each geometryBytes (m .geometries)
+
+-- the four records of what a view shows, where these are its declaration and its bytes
+unfoldable pub recordsShown : GeometryView → VertexDeclaration → ℕ → ℕ → List ℕ → IndexView → List ℕ → List ℕ
+recordsShown view declaration stride count content v raw =
+    geometryRecord (numbersSeen view)
+    ++ (declarationRecord declaration ++ (verticesRecord (record { layout = 0; stride = stride; count = count; content = content }) ++ indicesRecord (indicesIn v raw)))
+
+-- ---- the header at an address; where it does not resolve, that of an empty list
+
+abbrev pub orEmptyList : FoundHeader → PointerListHeader
+orEmptyList (Header h) = h
+orEmptyList Unresolved = record { pointer = 0; count = 0; capacity = 0 }
+
+abbrev pub headerOrEmpty : Sections → ℕ → PointerListHeader
+headerOrEmpty s va = orEmptyList (headerAt s va)
