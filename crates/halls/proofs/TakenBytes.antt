@@ -19,12 +19,12 @@ use Rattle.vertices.specs.declared.buffer.VertexBuffer.{VertexBuffer}
 use Rattle.vertices.specs.declared.buffer.FoundBuffer.{FoundBuffer}
 use Rattle.vertices.specs.declared.buffer.FoundBuffer.the-variants.{Buffer, NotFound}
 use Rattle.vertices.specs.declared.declaration.VertexDeclaration.{VertexDeclaration}
-use Rattle.vertices.proofs.RunLaws.{length-run}
+use Rattle.vertices.proofs.RunLaws.{numbers-length}
 use Rattle.halls.specs.Calls.{takenGeometry, takenModel, both, allOf}
 use Rattle.halls.specs.Hall.{FullGeometry, FullModel, Hall, listedGeometry, listedModel, hallBytes}
 use Rattle.halls.specs.List.{Vertices, Indices, Geometry, Model, optional, each, recordBytes, modelNumbers, geometryRecord, modelRecord, writeGeometry, writeGeometries, writeModel, write}
 use Rattle.halls.specs.Blocks.{ModelBlock, modelBlock, GeometryBlock, geometryBlock, indexBlock}
-use Rattle.halls.specs.Reading.{declarationOf, orEmpty, verticesOf, indicesOf, geometryWith, geometryOf}
+use Rattle.halls.specs.Reading.{first, rest, declarationOf, orEmpty, verticesOf, indicesOf, geometryWith, geometryOf}
 use Rattle.halls.specs.Taking.{indicesShown, geometryShown, asHalls, geometryBytes, modelBytes, recordsShown}
 use Rattle.halls.specs.View.{ListsOf, heldCount, indexViewIn, viewWith, geometryView, geometryIn, geometriesAt, modelOf, modelIn}
 use Rattle.halls.specs.declared.view.FoundIndices.{FoundIndices}
@@ -106,6 +106,27 @@ shaders-run : (gs : List Geometry) → each (λ (g : Geometry). bytes 2 (g .shad
 unfolding each run
 shaders-run [] = refl
 shaders-run (g ∷ gs) = rw (shaders-run gs)
+
+-- there are no more than pointers, two bytes each
+geometry-one : (s : Sections) (shader : ℕ) (o : Option (List ℕ)) → length (geometryIn s shader o) ≤ 1
+geometry-one s shader none = omega arith
+geometry-one s shader (some b) = omega arith
+
+geometries-few : (s : Sections) (shaders ps : List ℕ) → length (geometriesAt s shaders ps) ≤ length ps
+unfolding geometriesAt
+geometries-few s shaders [] = omega arith
+geometries-few s shaders (p ∷ ps) =
+    rw length-append (omega (arith, geometry-one s (first shaders) (resolved s p 0x98), geometries-few s (rest shaders) ps))
+
+shaders-length : (gs : List Geometry) → length (each (λ (g : Geometry). bytes 2 (g .shader)) gs) ≡ 2 * length gs
+unfolding each
+shaders-length [] = refl
+shaders-length (g ∷ gs) = rw (length-append, length-bytes, shaders-length gs) (omega arith)
+
+pub shaders-few : (s : Sections) (shaders pointers : List ℕ) → length (each (λ (g : Geometry). bytes 2 (g .shader)) (geometriesAt s shaders (numbers 8 (length pointers / 8) pointers))) ≤ length pointers
+shaders-few s shaders pointers =
+    let ps = numbers 8 (length pointers / 8) pointers in
+    omega (arith, shaders-length (geometriesAt s shaders ps), geometries-few s shaders ps, numbers-length 8 (length pointers / 8) pointers)
 
 pub numbers-length-12 : (body binding mask : ℕ) → length (modelNumbers body binding mask) ≡ 12
 unfolding bytes

@@ -1,58 +1,60 @@
+-- The mapping, the numbers before it, and the geometries right behind it.
+use mathlib.Core.Path.{_∙_}
+use Prim.Native.Nat.{_/_}
+use native.Mathlib.Omega.{arith}
 use borrow.Author.Needs.{needs}
+use lib.ListN.{length}
+use Rattle.sections.specs.Address.{sections}
+use Rattle.vertices.specs.Runs.{numbers}
+use Rattle.halls.specs.View.{geometriesAt}
+use Rattle.halls.proofs.TakenBytes.{shaders-few, model-bytes-length, model-put}
 use Rattle.halls.proofs.write_taken.write_taken_lists.Statement.{statement}
 use Rattle.halls.proofs.write_taken.write_taken_lists.Tie as tie
-use Rattle.halls.proofs.write_taken.write_taken_lists.Reads as reads
-use Rattle.halls.proofs.write_taken.write_taken_lists.Lts as lts
-use Rattle.halls.proofs.records.put_model_numbers.Reads as put-model-numbers-reads
-use Rattle.halls.proofs.write_taken.write_shaders.Reads as write-shaders-reads
-use Rattle.halls.proofs.write_taken.write_taken_geometries.Reads as write-taken-geometries-reads
 
--- src/write_taken.rt:109:35
-add-write-shaders : tie.Need-add-write-shaders
-add-write-shaders c = search needs
+shaders-require : tie.Need-write-shaders-requires
+shaders-require c κs =
+    let start = c .before .before .before .before .before .before in
+    let a = start .args in
+    let s = sections (a .system .now) (a .graphics .now) in
+    let gs = geometriesAt s (numbers 2 (length (a .mapping .now) / 2) (a .mapping .now)) (numbers 8 (length (a .pointers .now) / 8) (a .pointers .now)) in
+    (omega (arith, start .pre .2), omega (arith, start .pre .3, model-bytes-length (a .binding) (a .mask) gs))
 
--- src/write_taken.rt:109:9
-write-shaders-requires : tie.Need-write-shaders-requires
-write-shaders-requires c κs = ?
+short : tie.Need-cast-put-model-numbers
+short c =
+    let start = c .before .before .before .before .before .before .before .before .before .before in
+    let a = start .args in
+    let s = sections (a .system .now) (a .graphics .now) in
+    omega (arith, c .before .before .before .write-shaders .ensures .0, shaders-few s (numbers 2 (length (a .mapping .now) / 2) (a .mapping .now)) (a .pointers .now), start .pre .2)
 
--- src/write_taken.rt:110:33
-sub-put-model-numbers : tie.Need-sub-put-model-numbers
-sub-put-model-numbers c = search needs
+numbers-require : tie.Need-put-model-numbers-requires
+numbers-require c κs =
+    let start = c .before .before .before .before .before .before .before .before .before .before in
+    let a = start .args in
+    let s = sections (a .system .now) (a .graphics .now) in
+    let gs = geometriesAt s (numbers 2 (length (a .mapping .now) / 2) (a .mapping .now)) (numbers 8 (length (a .pointers .now) / 8) (a .pointers .now)) in
+    omega (arith, start .pre .3, model-bytes-length (a .binding) (a .mask) gs)
 
--- src/write_taken.rt:110:33
-sub-put-model-numbers-2 : tie.Need-sub-put-model-numbers-2
-sub-put-model-numbers-2 c = search needs
+geometries-require : tie.Need-write-taken-geometries-requires
+geometries-require c κs =
+    let start = c .before .before .before .before .before .before .before .before .before .before .before .before .before .before in
+    let a = start .args in
+    let s = sections (a .system .now) (a .graphics .now) in
+    let gs = geometriesAt s (numbers 2 (length (a .mapping .now) / 2) (a .mapping .now)) (numbers 8 (length (a .pointers .now) / 8) (a .pointers .now)) in
+    (start .pre .0, start .pre .1, omega (arith, start .pre .2), omega (arith, c .before .before .before .before .before .before .before .write-shaders .ensures .0, start .pre .3, model-bytes-length (a .binding) (a .mask) gs))
 
--- src/write_taken.rt:110:32
-cast-put-model-numbers : tie.Need-cast-put-model-numbers
-cast-put-model-numbers c = ?
-
--- src/write_taken.rt:110:5
-put-model-numbers-requires : tie.Need-put-model-numbers-requires
-put-model-numbers-requires c κs = ?
-
--- src/write_taken.rt:111:5
-write-taken-geometries-requires : tie.Need-write-taken-geometries-requires
-write-taken-geometries-requires c κs = ?
-
--- src/write_taken.rt:96:1
-same-length : tie.Need-same-length
-same-length c = search needs
-
--- src/write_taken.rt:96:1
 returns : tie.Need-returns
-returns c = ?
+returns c =
+    let start = c .before .before .before .before .before .before .before .before .before .before .before .before .before .before .before .before .before in
+    let a = start .args in
+    let s = sections (a .system .now) (a .graphics .now) in
+    let gs = geometriesAt s (numbers 2 (length (a .mapping .now) / 2) (a .mapping .now)) (numbers 8 (length (a .pointers .now) / 8) (a .pointers .now)) in
+    let first = c .before .before .before .before .before .before .before .before .before .before .write-shaders .ensures in
+    let last = c .before .before .write-taken-geometries .ensures in (
+      omega (arith, first .0, last .0, model-bytes-length (a .binding) (a .mask) gs),
+      model-put (a .binding) (a .mask) gs (a .out .now) (a .at) _ _ (first .1) (c .before .before .before .before .before .before .put-model-numbers .ensures) (omega (arith, first .0)) (first .0) (last .1) (start .pre .3),
+    )
 
 pub write-taken-lists-spec : {M : Type 1} → statement M
 write-taken-lists-spec =
     tie.close
-    (tie.spec
-    add-write-shaders
-    write-shaders-requires
-    sub-put-model-numbers
-    sub-put-model-numbers-2
-    cast-put-model-numbers
-    put-model-numbers-requires
-    write-taken-geometries-requires
-    same-length
-    returns)
+    (tie.spec (λ c. search needs) shaders-require (λ c. search needs) (λ c. search needs) short numbers-require geometries-require (λ c. search needs) returns)

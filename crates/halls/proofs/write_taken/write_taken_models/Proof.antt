@@ -1,51 +1,44 @@
+-- Each turn writes what is behind one pointer right behind what was written.
+use Prim.Native.Nat.{_-_}
+use native.Mathlib.Omega.{arith}
+use borrow.Author.Needs.{needs}
+use Rattle.sections.specs.Address.{sections}
+use Rattle.halls.specs.Taking.{modelBytes}
+use Rattle.halls.proofs.Walks.{modelsLeft, models-none, models-next}
+use Rattle.halls.proofs.WritingItems.{WritingItems, items-start, items-room, items-turn, items-place, items-end}
 use Rattle.halls.proofs.write_taken.write_taken_models.Statement.{statement}
 use Rattle.halls.proofs.write_taken.write_taken_models.Tie as tie
-use Rattle.halls.proofs.write_taken.write_taken_models.Reads as reads
-use Rattle.halls.proofs.write_taken.write_taken_models.Lts as lts
-use Rattle.halls.proofs.write_taken.write_taken_model_at.Reads as write-taken-model-at-reads
-use Rattle.sections.proofs.u64_le.Reads as u64-le-reads
 
 abbrev Inv-loop : tie.InvT-loop
-Inv-loop out₀ at system graphics pointers n i₀ next₀ out i next = ?
+Inv-loop out₀ at system graphics pointers n i₀ next₀ out i next =
+    WritingItems modelBytes (modelsLeft (sections system graphics) pointers) out₀ at out i next
 
 abbrev μ-loop : tie.MeasureT-loop
-μ-loop out₀ at system graphics pointers n i₀ next₀ out i next = ?
+μ-loop out₀ at system graphics pointers n i₀ next₀ out i next = n - i
 
--- src/write_taken.rt:51:5
-loop-holds : tie.Need-loop-holds Inv-loop μ-loop
-loop-holds c = ?
+requires : tie.Need-write-taken-model-at-requires Inv-loop μ-loop
+requires c κs =
+    let start = c .before .before .before .before .before .before .before .before in
+    let turn = c .before .before .before .loop in
+    let s = sections (start .args .system .now) (start .args .graphics .now) in
+    let next = models-next s (start .args .pointers .now) (turn .i) _ (c .before .before .loop-test .taken) (c .u64-le .ensures) in
+    (start .pre .0, start .pre .1, items-room (turn .inv) _ next)
 
--- src/write_taken.rt:52:83
-mul-u64-le : tie.Need-mul-u64-le Inv-loop μ-loop
-mul-u64-le c = ?
+again : tie.Need-loop-again Inv-loop μ-loop
+again c =
+    let start = c .before .before .before .before .before .before .before .before .before .before .before in
+    let turn = c .before .before .before .before .before .before .loop in
+    let s = sections (start .args .system .now) (start .args .graphics .now) in
+    let next = models-next s (start .args .pointers .now) (turn .i) _ (c .before .before .before .before .before .loop-test .taken) (c .before .before .before .u64-le .ensures) in
+    let put = c .before .before .write-taken-model-at .ensures in
+    items-turn (turn .inv) _ next (put .0) (put .1)
 
--- src/write_taken.rt:52:66
-u64-le-requires : tie.Need-u64-le-requires Inv-loop μ-loop
-u64-le-requires c κs = ?
-
--- src/write_taken.rt:52:9
-write-taken-model-at-requires : tie.Need-write-taken-model-at-requires Inv-loop μ-loop
-write-taken-model-at-requires c κs = ?
-
--- src/write_taken.rt:53:9
-add-i : tie.Need-add-i Inv-loop μ-loop
-add-i c = ?
-
--- src/write_taken.rt:51:5
-loop-less : tie.Need-loop-less Inv-loop μ-loop
-loop-less c = ?
-
--- src/write_taken.rt:51:5
-loop-again : tie.Need-loop-again Inv-loop μ-loop
-loop-again c = ?
-
--- src/write_taken.rt:38:1
-same-length : tie.Need-same-length Inv-loop μ-loop
-same-length c = ?
-
--- src/write_taken.rt:38:1
 returns : tie.Need-returns Inv-loop μ-loop
-returns c = ?
+returns c =
+    let start = c .before .before .before .before .before .before in
+    let w = c .before .loop .inv in
+    let none = models-none (sections (start .args .system .now) (start .args .graphics .now)) (start .args .pointers .now) (c .before .loop .i) (c .loop-test .left) in
+    (items-place w none, items-end w none)
 
 pub write-taken-models-spec : {M : Type 1} → statement M
 write-taken-models-spec =
@@ -53,12 +46,12 @@ write-taken-models-spec =
     (tie.spec
     Inv-loop
     μ-loop
-    loop-holds
-    mul-u64-le
-    u64-le-requires
-    write-taken-model-at-requires
-    add-i
-    loop-less
-    loop-again
-    same-length
+    (λ c. items-start _ _ _ _ (c .before .before .before .before .pre .3))
+    (λ c. omega arith)
+    (λ c κs. search needs)
+    requires
+    (λ c. omega arith)
+    (λ c. omega arith)
+    again
+    (λ c. c .before .loop .inv .same)
     returns)
