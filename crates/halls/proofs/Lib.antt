@@ -47,3 +47,4 @@ pub mod RemovedGeometry
 pub mod IndicesWritten
 pub mod NewIndices
 pub mod AddedGeometry
+pub mod TakenVerdict
