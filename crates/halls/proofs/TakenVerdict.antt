@@ -1,35 +1,37 @@
 -- What a reading comes to is what the verdict asks of the hall that `takeIn` proposes: check 11 where a part is lacking, else the hall's verdict and length.
-use mathlib.Core.Path.{_≡_, refl, sym, ap, _∙_}
-use mathlib.Core.Bool.{Bool, true, false, cond, _&&_}
+use mathlib.Core.Path.{_≡_, refl, sym, _∙_}
+use mathlib.Core.Bool.{true, _&&_}
 use mathlib.Core.List.{List, [], _∷_, map}
 use mathlib.Core.Option.{Option, none, some, Option·map}
-use Prim.Native.Nat.{ℕ, suc, _+_, _*_, _≤_, min}
+use Prim.Native.Nat.{ℕ, _+_, _*_, _≤_, min}
 use native.Mathlib.Omega.{arith}
 use borrow.Author.Tests.{eq-eqb}
 use lib.Dec.{leb}
 use lib.ListN.{length, length-append}
-use Rattle.sections.specs.Address.{Sections, resolved}
+use Rattle.sections.specs.Address.{Sections}
 use Rattle.vertices.specs.Buffer.{vertexBufferAt}
 use Rattle.vertices.specs.declared.buffer.VertexBuffer.{VertexBuffer}
 use Rattle.vertices.proofs.BufferLaws.{FoundData, buffer-data}
-use Rattle.halls.specs.Blocks.{GeometryBlock, geometryBlock, ModelBlock, modelBlock}
+use Rattle.halls.specs.Blocks.{GeometryBlock}
 use Rattle.halls.specs.Calls.{both, allOf, takenModel}
-use Rattle.halls.specs.Checks.{vertexBytesExact, shaderIds, mappingMatches, geometryCount, stridesAgree, componentsInside, vertexCountsAgree, indexCountsAgree, indicesInRange, everyGeometry, verdict}
+use Rattle.halls.specs.Checks.{vertexBytesExact, shaderIds, mappingMatches, geometryCount, everyGeometry, verdict}
 use Rattle.halls.specs.Every.{every, sumOf, Each}
 use Rattle.halls.specs.Hall.{FullGeometry, FullModel, Hall, listedGeometry, listedModel, hallBytes}
 use Rattle.halls.specs.ImageSize.{geometrySize, modelSize, imageSize}
 use Rattle.halls.specs.Judging.{lowestOf}
 use Rattle.halls.specs.List.{Vertices, Indices, Geometry, Model, each, writeGeometry, writeGeometries, writeModel, modelRecord, modelBody}
-use Rattle.halls.specs.Reading.{first, rest, orEmpty, listAt, mappingOf, verticesOf, geometryWith, geometryOf}
+use Rattle.halls.specs.Reading.{verticesOf, geometryWith, geometryOf}
 use Rattle.halls.specs.Taking.{asHalls, geometryTaken, nothingTaken, together, allTaken, recordTaken, modelTaken}
-use Rattle.halls.specs.View.{geometryIn, geometriesAt, modelOf, modelIn, modelsAt}
+use Rattle.halls.specs.View.{modelsAt}
 use Rattle.halls.specs.Walk.{units, verdictOf, limitsLowest}
 use Rattle.halls.specs.declared.judge_read.Taken.{Taken}
 use Rattle.halls.proofs.BodyLaws.{model-body-length}
 use Rattle.halls.proofs.ExaminedLaws.{limits-low}
 use Rattle.halls.proofs.LimitLaws.{limits-of}
-use Rattle.halls.proofs.SoundEdits.{each-join, same-itself}
-use Rattle.halls.proofs.TallyLaws.{lowestOfAll, lowestOfModels, verdict-lowest}
+use Rattle.halls.proofs.ReadEach.{models-each}
+use Rattle.halls.proofs.SoundEdits.{same-itself}
+use Rattle.halls.proofs.TakingLaws.{of-bounds, geometries-counted}
+use Rattle.halls.proofs.TallyLaws.{lowestOfAll, lowestOfModels, verdict-lowest, length-shaders}
 use Rattle.halls.proofs.ViewLaws.{record-length, geometry-record-length, declaration-record-length, vertices-record-length, indices-record-length}
 
 -- ---- vertex bytes are exact where they were read
@@ -56,52 +58,18 @@ unfolding geometryOf geometryWith
 geometry-exact s shader b =
     buffer-exact s (vertexBufferAt s (b .vertexBlock) (b .inline) (b .vertices) (b .stride)) (buffer-data s (b .vertexBlock) (b .inline) (b .vertices) (b .stride))
 
-geometry-in-exact : (s : Sections) (shader : ℕ) (o : Option (List ℕ)) → Each ExactGeometry (geometryIn s shader o)
-unfolding Each
-geometry-in-exact s shader none = tt
-geometry-in-exact s shader (some b) = (geometry-exact s shader (geometryBlock b), tt)
-
-geometries-exact : (s : Sections) (shaders ps : List ℕ) → Each ExactGeometry (geometriesAt s shaders ps)
-unfolding Each geometriesAt
-geometries-exact s shaders [] = tt
-geometries-exact s shaders (p ∷ ps) =
-    each-join ExactGeometry (geometryIn s (first shaders) (resolved s p 0x98)) (geometriesAt s (rest shaders) ps) (geometry-in-exact s (first shaders) (resolved s p 0x98)) (geometries-exact s (rest shaders) ps)
-
-model-exact : (s : Sections) (b : ModelBlock) → ExactModel (modelOf s b)
-unfolding modelOf
-model-exact s b = geometries-exact s (mappingOf s b) (orEmpty (listAt s 8 (b .count) (b .geometries)))
-
-model-in-exact : (s : Sections) (o : Option (List ℕ)) → Each ExactModel (modelIn s o)
-unfolding Each
-model-in-exact s none = tt
-model-in-exact s (some b) = (model-exact s (modelBlock b), tt)
-
 models-exact : (s : Sections) (ps : List ℕ) → Each ExactModel (modelsAt s ps)
-unfolding Each modelsAt
-models-exact s [] = tt
-models-exact s (p ∷ ps) = each-join ExactModel (modelIn s (resolved s p 0x30)) (modelsAt s ps) (model-in-exact s (resolved s p 0x30)) (models-exact s ps)
+models-exact s ps = models-each s ExactGeometry (geometry-exact s) ps
 
 -- ---- one geometry
 
-lowest-bounds : (a b c d e : Bool) → (11 ≤ cond a (cond b (cond c (cond d (cond e 20 18) 17) 16) 15) 14) × (cond a (cond b (cond c (cond d (cond e 20 18) 17) 16) 15) 14 ≤ 20)
-lowest-bounds false b c d e = (omega arith, omega arith)
-lowest-bounds true false c d e = (omega arith, omega arith)
-lowest-bounds true true false d e = (omega arith, omega arith)
-lowest-bounds true true true false e = (omega arith, omega arith)
-lowest-bounds true true true true false = (omega arith, omega arith)
-lowest-bounds true true true true true = (omega arith, omega arith)
-
-of-bounds : (g : FullGeometry) → (11 ≤ lowestOf g) × (lowestOf g ≤ 20)
-unfolding lowestOf
-of-bounds g = lowest-bounds (stridesAgree g) (componentsInside g) (vertexCountsAgree g) (indexCountsAgree g) (indicesInRange g)
-
-pub record GeometryTakenAs (g : FullGeometry) (t : Taken) : Type 0 where
-  pub lowest : t .lowest ≡ lowestOf g
-  pub models : t .models ≡ 0
-  pub geometries : t .geometries ≡ 1
-  pub image : 16 * t .units ≡ geometrySize g
-  pub long : t .«length» ≡ length (writeGeometry (listedGeometry g))
-  pub exact : vertexBytesExact g ≡ true
+record GeometryTakenAs (g : FullGeometry) (t : Taken) : Type 0 where
+  lowest : t .lowest ≡ lowestOf g
+  models : t .models ≡ 0
+  geometries : t .geometries ≡ 1
+  image : 16 * t .units ≡ geometrySize g
+  long : t .«length» ≡ length (writeGeometry (listedGeometry g))
+  exact : vertexBytesExact g ≡ true
 
 abbrev GeometryJudged : Option FullGeometry → Taken → Type 0
 GeometryJudged none t = t .lowest ≡ 11
@@ -132,14 +100,14 @@ geometry-judged g x = by-parts (g .vertices) (g .indices) refl refl
 
 -- ---- a model's geometries
 
-pub record GeometriesTakenAs (gs : List FullGeometry) (t : Taken) : Type 0 where
-  pub lowest : t .lowest ≡ lowestOfAll gs
-  pub above : 11 ≤ t .lowest
-  pub models : t .models ≡ 0
-  pub geometries : t .geometries ≡ length gs
-  pub image : 16 * t .units ≡ sumOf geometrySize gs
-  pub long : t .«length» ≡ length (writeGeometries (map listedGeometry gs))
-  pub exact : every vertexBytesExact gs ≡ true
+record GeometriesTakenAs (gs : List FullGeometry) (t : Taken) : Type 0 where
+  lowest : t .lowest ≡ lowestOfAll gs
+  above : 11 ≤ t .lowest
+  models : t .models ≡ 0
+  geometries : t .geometries ≡ length gs
+  image : 16 * t .units ≡ sumOf geometrySize gs
+  long : t .«length» ≡ length (writeGeometries (map listedGeometry gs))
+  exact : every vertexBytesExact gs ≡ true
 
 abbrev GeometriesJudged : Option (List FullGeometry) → Taken → Type 0
 GeometriesJudged none t = t .lowest ≡ 11
@@ -170,22 +138,16 @@ geometries-judged [] x = geometries-none
 geometries-judged (g ∷ gs) x =
     geometries-more (asHalls g) (allOf asHalls gs) (geometryTaken g) (allTaken geometryTaken gs) (geometry-judged g (x .0)) (geometries-judged gs (x .1))
 
--- as many as were read
-geometries-counted : (gs : List Geometry) → allTaken geometryTaken gs .geometries ≡ length gs
-unfolding allTaken geometryTaken
-geometries-counted [] = refl
-geometries-counted (g ∷ gs) = omega (arith, geometries-counted gs)
-
 -- ---- models
 
-pub record ModelsTakenAs (h : Hall) (t : Taken) : Type 0 where
-  pub lowest : t .lowest ≡ lowestOfModels h
-  pub above : 11 ≤ t .lowest
-  pub models : t .models ≡ length h
-  pub geometries : t .geometries ≡ geometryCount h
-  pub image : 16 * t .units ≡ sumOf modelSize h
-  pub long : t .«length» ≡ length (hallBytes h)
-  pub exact : everyGeometry vertexBytesExact h ≡ true
+record ModelsTakenAs (h : Hall) (t : Taken) : Type 0 where
+  lowest : t .lowest ≡ lowestOfModels h
+  above : 11 ≤ t .lowest
+  models : t .models ≡ length h
+  geometries : t .geometries ≡ geometryCount h
+  image : 16 * t .units ≡ sumOf modelSize h
+  long : t .«length» ≡ length (hallBytes h)
+  exact : everyGeometry vertexBytesExact h ≡ true
 
 abbrev ModelsJudged : Option Hall → Taken → Type 0
 ModelsJudged none t = t .lowest ≡ 11
@@ -198,10 +160,6 @@ models-none = record { lowest = refl; above = omega arith; models = refl; geomet
 -- a model with these geometries, and its mapping made of their shader ids
 abbrev hallsModel : Model → List FullGeometry → FullModel
 hallsModel m gs = record { binding = m .binding; mask = m .mask; mapping = shaderIds gs; geometries = gs }
-
-shaders-length : (gs : List FullGeometry) → length (shaderIds gs) ≡ length gs
-shaders-length [] = refl
-shaders-length (g ∷ gs) = ap suc (shaders-length gs)
 
 model-long : (m : FullModel) → length (writeModel (listedModel m)) ≡ 12 + 2 * length (m .mapping) + length (writeGeometries (map listedGeometry (m .geometries)))
 unfolding writeModel modelRecord
@@ -224,8 +182,8 @@ models-more m n (some gs) (some h) t u e a b =
       above = omega (arith, a .above, b .above);
       models = omega (arith, a .models, b .models);
       geometries = omega (arith, a .geometries, b .geometries);
-      image = omega (arith, a .image, b .image, shaders-length gs);
-      long = rw length-append (omega (arith, model-long f, shaders-length gs, a .long, b .long));
+      image = omega (arith, a .image, b .image, length-shaders gs);
+      long = rw length-append (omega (arith, model-long f, length-shaders gs, a .long, b .long));
       exact = rw (a .exact, b .exact);
     }
 
