@@ -48,6 +48,7 @@ pub mod IndicesWritten
 pub mod NewIndices
 pub mod AddedGeometry
 pub mod ReadEach
+pub mod ReadFew
 pub mod ShownLaws
 pub mod TakingItems
 pub mod TakingLaws

@@ -18,8 +18,8 @@ same-taken p q r s t = cc
 together-assoc : (a b c : Taken) → together (together a b) c ≡ together a (together b c)
 together-assoc a b c = same-taken (omega arith) (omega arith) (omega arith) (omega arith) (omega arith)
 
--- one that fails nothing above 20 stays, with nothing before or behind
-pub nothing-before : (t : Taken) → t .lowest ≤ 20 → together nothingTaken t ≡ t
+-- with nothing before or behind it stays as it is
+nothing-before : (t : Taken) → t .lowest ≤ 20 → together nothingTaken t ≡ t
 nothing-before t h = same-taken (omega arith) (omega arith) (omega arith) (omega arith) (omega arith)
 
 pub nothing-behind : (t : Taken) → t .lowest ≤ 20 → together t nothingTaken ≡ t
@@ -41,7 +41,7 @@ module _ {A : Type 0} (f : A → Taken) where
   all-append (x ∷ xs) ys = ap (together (f x)) (all-append xs ys) ∙ sym (together-assoc (f x) (allTaken f xs) (allTaken f ys))
 
 -- a part of a sum that fits
-pub fits-first : (a b : Taken) → Fitting (together a b) → Fitting a
+fits-first : (a b : Taken) → Fitting (together a b) → Fitting a
 fits-first a b h = record { models = omega (arith, h .models); geometries = omega (arith, h .geometries); image = omega (arith, h .image); long = omega (arith, h .long) }
 
 pub fits-second : (a b : Taken) → Fitting (together a b) → Fitting b

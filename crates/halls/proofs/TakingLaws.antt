@@ -68,15 +68,13 @@ module _ (s : Sections) (b : ModelBlock) (pointers mapping : List ℕ) (l : List
   unfolding modelTaken modelOf
   by-lists = rw (pointer-numbers s b pointers mapping l, mapping-numbers s b pointers mapping l)
 
-  module _ (fits : Fitting (modelTaken (modelOf s b))) where
-    pub geometries-fit : Fitting (allTaken geometryTaken geometries)
-    geometries-fit = fits-second (recordTaken (length geometries)) (allTaken geometryTaken geometries) (rw by-lists at fits)
+  pub geometries-fit : Fitting (modelTaken (modelOf s b)) → Fitting (allTaken geometryTaken geometries)
+  geometries-fit fits = fits-second (recordTaken (length geometries)) (allTaken geometryTaken geometries) (rw by-lists at fits)
 
-  module _ {r : Taken} (e : r ≡ allTaken geometryTaken geometries) where
-    pub model-taken : together (recordTaken (r .geometries)) r ≡ modelTaken (modelOf s b)
-    model-taken =
-        ap (λ (x : Taken). together (recordTaken (x .geometries)) x) e ∙ ap (λ (n : ℕ). together (recordTaken n) (allTaken geometryTaken geometries)) (geometries-counted geometries)
-        ∙ sym by-lists
+  pub model-taken : {r : Taken} → r ≡ allTaken geometryTaken geometries → together (recordTaken (r .geometries)) r ≡ modelTaken (modelOf s b)
+  model-taken e =
+      ap (λ (x : Taken). together (recordTaken (x .geometries)) x) e ∙ ap (λ (n : ℕ). together (recordTaken n) (allTaken geometryTaken geometries)) (geometries-counted geometries)
+      ∙ sym by-lists
 
 one-model : (m : Model) → allTaken modelTaken (m ∷ []) ≡ modelTaken m
 unfolding allTaken modelTaken
