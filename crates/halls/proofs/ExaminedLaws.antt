@@ -47,7 +47,7 @@ unfolding ordered follows geometriesIn
 no-geometry-first [] e = refl
 no-geometry-first (r ∷ rs) e = rw (both-true (eqb (r .kind) 1) _ e .0)
 
-limits-low : (counts image : Bool) → (13 ≤ cond counts (failing 19 image) 13) × (cond counts (failing 19 image) 13 ≤ passed)
+pub limits-low : (counts image : Bool) → (13 ≤ cond counts (failing 19 image) 13) × (cond counts (failing 19 image) 13 ≤ passed)
 limits-low true true = (omega arith, omega arith)
 limits-low true false = (omega arith, omega arith)
 limits-low false image = (omega arith, omega arith)

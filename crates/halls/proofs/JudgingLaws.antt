@@ -6,12 +6,13 @@ use mathlib.Core.Option.{Option, none, some}
 use Prim.Native.Nat.{ℕ, suc, _+_, _*_, _-_, _/_, _%_, _≤_, _<_}
 use native.Mathlib.Nat.{add-assoc, add-zero, mul-le-mul-right, suc-mul}
 use native.Mathlib.Omega.{arith}
-use borrow.Author.Tests.{le-ltb, lt-ltb}
+use borrow.Author.Tests.{eqb-true, le-ltb, lt-ltb}
 use lib.Dec.{eqb, leb, ltb}
 use lib.ListN.{length, drop}
 use lib.Seq.{drop-drop, ext-getD}
 use Rattle.sections.specs.Edit.{part}
 use Rattle.sections.specs.Le.{field, le}
+use Rattle.sections.proofs.AddressLaws.{both-true}
 use Rattle.sections.proofs.EditLaws.{part-length, part-part}
 use Rattle.sections.proofs.LeLaws.{field-in}
 use Rattle.vertices.specs.Declaration.{componentOf, componentsFrom, declarationAt, foundComponent, sizes, totalSize}
@@ -209,6 +210,12 @@ chain-passes true true false d next e = absurd (omega (arith, e))
 chain-passes true true true false next e = absurd (omega (arith, e))
 chain-passes true true true true next e = refl
 
+chain-counts : (a b c d : Bool) → chain a b c d 20 ≡ 20 → c ≡ true
+chain-counts false b c d e = absurd (omega (arith, e))
+chain-counts true false c d e = absurd (omega (arith, e))
+chain-counts true true false d e = absurd (omega (arith, e))
+chain-counts true true true d e = refl
+
 module _ (g : FullGeometry) {h : GeometryHead} {r : ℕ} (e : h ≡ headOf g) (j : HeadJudged h r) where
   -- one of checks 14 to 17 fails
   pub lowest-head : (r ≡ 20 → ⊥) → r ≡ lowestOf g
@@ -217,8 +224,14 @@ module _ (g : FullGeometry) {h : GeometryHead} {r : ℕ} (e : h ≡ headOf g) (j
       let q = j .lowest g e in
       q ∙ chain-stops (stridesAgree g) (componentsInside g) (vertexCountsAgree g) (indexCountsAgree g) (cond (indicesInRange g) 20 18) (λ z. f (q ∙ z))
 
-  -- none of them does: check 18 decides
-  lowest-range : r ≡ 20 → cond (indicesInRange g) 20 18 ≡ lowestOf g
+  -- none of them does: the vertex counts agree, and check 18 decides
+  pub lowest-counts : r ≡ 20 → g .vertexCount ≡ g .vertices .count
+  unfolding vertexCountsAgree
+  lowest-counts z =
+      let agree = chain-counts (stridesAgree g) (componentsInside g) (vertexCountsAgree g) (indexCountsAgree g) (sym (j .lowest g e) ∙ z) in
+      eqb-true (g .vertexCount) (g .vertices .count) (both-true (eqb (g .vertexCount) (g .vertices .count)) _ agree .0)
+
+  pub lowest-range : r ≡ 20 → cond (indicesInRange g) 20 18 ≡ lowestOf g
   unfolding lowestOf
   lowest-range z =
       chain-passes (stridesAgree g) (componentsInside g) (vertexCountsAgree g) (indexCountsAgree g) (cond (indicesInRange g) 20 18) (sym (j .lowest g e) ∙ z)

@@ -47,4 +47,12 @@ pub mod RemovedGeometry
 pub mod IndicesWritten
 pub mod NewIndices
 pub mod AddedGeometry
+pub mod ReadEach
+pub mod ReadFew
+pub mod ShownLaws
+pub mod TakingItems
+pub mod TakingLaws
+pub mod FittingLaws
+pub mod TakenVerdict
 pub mod TakenBytes
+pub mod TakenLaws

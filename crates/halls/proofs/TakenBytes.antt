@@ -25,7 +25,7 @@ use Rattle.halls.specs.Hall.{FullGeometry, FullModel, Hall, listedGeomet
 use Rattle.halls.specs.List.{Vertices, Indices, Geometry, Model, optional, each, recordBytes, modelNumbers, geometryRecord, modelRecord, writeGeometry, writeGeometries, writeModel, write}
 use Rattle.halls.specs.Blocks.{ModelBlock, modelBlock, GeometryBlock, geometryBlock, indexBlock}
 use Rattle.halls.specs.Reading.{first, rest, declarationOf, orEmpty, verticesOf, indicesOf, geometryWith, geometryOf}
-use Rattle.halls.specs.Taking.{indicesShown, geometryShown, asHalls, geometryBytes, modelBytes, recordsShown}
+use Rattle.halls.specs.Taking.{indicesShown, geometryShown, asHalls, geometryBytes, modelBytes, recordsShown, fullShown}
 use Rattle.halls.specs.View.{ListsOf, heldCount, indexViewIn, viewWith, geometryView, geometryIn, geometriesAt, modelOf, modelIn}
 use Rattle.halls.specs.declared.view.FoundIndices.{FoundIndices}
 use Rattle.halls.specs.declared.view.FoundIndices.the-variants.{Indices as Seen, Absent as Unseen}
@@ -34,6 +34,7 @@ use Rattle.halls.specs.declared.view.IndexView.{IndexView}
 use Rattle.halls.proofs.EachLaws.{each-append, each-one}
 use Rattle.halls.proofs.HeldLaws.{items-length}
 use Rattle.halls.proofs.ModelLaws.{mapping-numbers, pointer-numbers}
+use Rattle.halls.proofs.ShownLaws.{shown-is, shown-full, lacks-vertices, lacks-indices}
 use Rattle.halls.proofs.ViewLaws.{buffer-in-found, block-view-is, record-length, geometry-record-length, declaration-record-length, vertices-record-length, indices-record-length}
 
 -- ---- a view
@@ -44,51 +45,28 @@ unfolding recordsShown
 shown-length view d stride count content v raw =
     simp (length-append, geometry-record-length, declaration-record-length, vertices-record-length, indices-record-length, items-length) (omega arith)
 
-declared : (d : StoredDeclaration) (stride : ℕ) → Option·getD (declarationOf d) (positionOnly stride) ≡ orPositionOnly d stride
-declared Absent stride = refl
-declared (Declaration d) stride = refl
+full-bytes : (g : Geometry) (f : FullGeometry) → asHalls g ≡ some f → geometryBytes g ≡ writeGeometry (listedGeometry f)
+unfolding geometryBytes
+full-bytes g f e = ap (optional (λ (x : FullGeometry). writeGeometry (listedGeometry x))) e
+
+lacking : (g : Geometry) → asHalls g ≡ none → geometryBytes g ≡ []
+unfolding geometryBytes
+lacking g e = ap (optional (λ (x : FullGeometry). writeGeometry (listedGeometry x))) e
 
 module _ (s : Sections) (view : GeometryView) where
-  abbrev with-parts : FoundBuffer → FoundIndices → GeometryView
-  with-parts buffer indices = record {
-    shader = view .shader;
-    «index_count» = view .«index_count»;
-    «triangle_count» = view .«triangle_count»;
-    «vertex_count» = view .«vertex_count»;
-    stride = view .stride;
-    buffer = buffer;
-    indices = indices;
-  }
-
-  by-parts : (P : GeometryView → List ℕ) (b : FoundBuffer) (i : FoundIndices) → view .buffer ≡ b → view .indices ≡ i → P view ≡ P (with-parts b i)
-  by-parts P b i e f = λ k. P (with-parts (e k) (f k))
-
   pub shown-bytes : (b : VertexBuffer) (v : IndexView) → view .buffer ≡ Buffer b → view .indices ≡ Seen v → (d : VertexDeclaration) → d ≡ orPositionOnly (b .declaration) (b .«vertex_stride»)
       → (content raw : List ℕ) → content ≡ orEmpty (rangeOf s (b .«data») (b .«vertex_count» * b .«vertex_stride»)) → raw ≡ orEmpty (rangeOf s (v .place) (v .count * v .width))
       → geometryBytes (geometryShown s view) ≡ recordsShown view d (b .«vertex_stride») (b .«vertex_count») content v raw
-  unfolding geometryBytes geometryShown recordsShown writeGeometry geometryRecord verticesOf
-  shown-bytes b v e f d g content raw c r =
-      by-parts (λ (x : GeometryView). geometryBytes (geometryShown s x)) (Buffer b) (Seen v) e f
-      ∙ rw (declared (b .declaration) (b .«vertex_stride»), ← g, ← c, ← r)
+  unfolding recordsShown writeGeometry geometryRecord fullShown verticesOf
+  shown-bytes b v e f d g content raw c r = full-bytes (geometryShown s view) (fullShown s view b v) (shown-full s view b v e f) ∙ rw (← g, ← c, ← r)
 
   pub shown-none : view .buffer ≡ NotFound → geometryBytes (geometryShown s view) ≡ []
-  unfolding geometryBytes geometryShown
-  shown-none e = by-parts (λ (x : GeometryView). geometryBytes (geometryShown s x)) NotFound (view .indices) e refl
+  shown-none e = lacking (geometryShown s view) (lacks-vertices s view e)
 
   pub shown-unindexed : (b : VertexBuffer) → view .buffer ≡ Buffer b → view .indices ≡ Unseen → geometryBytes (geometryShown s view) ≡ []
-  unfolding geometryBytes geometryShown
-  shown-unindexed b e f = by-parts (λ (x : GeometryView). geometryBytes (geometryShown s x)) (Buffer b) Unseen e f
+  shown-unindexed b e f = lacking (geometryShown s view) (lacks-indices s view b e f)
 
 -- ---- behind a pointer
-
-indices-shown : (s : Sections) (o : Option (List ℕ)) → indicesShown s (indexViewIn s o) ≡ Option·map (λ raw. indicesOf s (indexBlock raw)) o
-indices-shown s none = refl
-indices-shown s (some raw) = ap some (sym (block-view-is s (indexBlock raw)))
-
-shown-is : (s : Sections) (shader : ℕ) (b : GeometryBlock) → geometryShown s (geometryView s shader b) ≡ geometryOf s shader b
-unfolding geometryShown geometryView viewWith geometryOf geometryWith
-shown-is s shader b =
-    rw (buffer-in-found (vertexBufferAt s (b .vertexBlock) (b .inline) (b .vertices) (b .stride)), indices-shown s (resolved s (b .indexBlock) 0x60))
 
 module _ (s : Sections) (shader pointer : ℕ) (raw : List ℕ) (e : resolved s pointer 0x98 ≡ some raw) where
   pub shader-in : each (λ (g : Geometry). bytes 2 (g .shader)) (geometryIn s shader (resolved s pointer 0x98)) ≡ bytes 2 shader
@@ -200,10 +178,6 @@ full-shader g f e = on (g .vertices) (g .indices) e
     on none i e = let z : _≡_ {A = ℕ} 0 1 = cc in absurd (omega arith)
     on (some v) none e = let z : _≡_ {A = ℕ} 0 1 = cc in absurd (omega arith)
     on (some v) (some i) e = cc
-
-full-bytes : (g : Geometry) (f : FullGeometry) → asHalls g ≡ some f → geometryBytes g ≡ writeGeometry (listedGeometry f)
-unfolding geometryBytes
-full-bytes g f e = ap (optional (λ (x : FullGeometry). writeGeometry (listedGeometry x))) e
 
 full-geometries : (gs : List Geometry) (fs : List FullGeometry) → allOf asHalls gs ≡ some fs
     → (each geometryBytes gs ≡ writeGeometries (map listedGeometry fs)) × (map (λ (g : Geometry). g .shader) gs ≡ map (λ (f : FullGeometry). f .shader) fs)

@@ -263,7 +263,7 @@ image-units (r ∷ rs) = on (eqb (r .kind) 1) (eqb (r .kind) 2) refl refl (image
 same-length : (xs ys : List ℕ) → sameNumbers xs ys ≡ true → length xs ≡ length ys
 same-length xs ys e = ap length (same-numbers xs ys e)
 
-length-shaders : (gs : List FullGeometry) → length (shaderIds gs) ≡ length gs
+pub length-shaders : (gs : List FullGeometry) → length (shaderIds gs) ≡ length gs
 length-shaders [] = refl
 length-shaders (g ∷ gs) = ap suc (length-shaders gs)
 

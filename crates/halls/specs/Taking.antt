@@ -1,7 +1,7 @@
 -- Take in: a reading as a hall's models and geometries, what they come to, and their bytes. Private contracts speak of this; `TakenVerdict` and `TakenBytes` tie it to the hall that `takeIn` proposes.
 use mathlib.Core.List.{List, [], _∷_, _++_, map}
 use mathlib.Core.Option.{Option, none, some, Option·map}
-use Prim.Native.Nat.{ℕ, _+_, _*_, min}
+use Prim.Native.Nat.{ℕ, _+_, _*_, _^_, _<_, min}
 use lib.ListN.{length}
 use Rattle.sections.specs.Address.{Sections}
 use Rattle.sections.specs.Lists.{headerAt}
@@ -14,9 +14,14 @@ use Rattle.halls.specs.Judging.{passed, lowestOf}
 use Rattle.halls.specs.List.{Vertices, Indices, Geometry, Model, optional, each, recordBytes, geometryRecord, declarationRecord, verticesRecord, indicesRecord, writeGeometry}
 use Rattle.sections.specs.Le.{bytes}
 use Rattle.vertices.specs.Runs.{run}
+use Rattle.vertices.specs.Buffer.{orPositionOnly}
+use Rattle.vertices.specs.declared.buffer.FoundBuffer.{FoundBuffer}
+use Rattle.vertices.specs.declared.buffer.FoundBuffer.the-variants.{Buffer, NotFound}
+use Rattle.vertices.specs.declared.buffer.VertexBuffer.{VertexBuffer}
 use Rattle.halls.specs.Reading.{storedIn, verticesOf}
-use Rattle.halls.specs.View.{indicesIn, indicesSeen, bufferIn, numbersSeen}
+use Rattle.halls.specs.View.{indicesIn, indicesSeen, heldCount, bufferIn, numbersSeen}
 use Rattle.halls.specs.Walk.{modelUnits, geometryUnits}
+use Rattle.halls.specs.declared.judge.GeometryHead.{GeometryHead}
 use Rattle.halls.specs.declared.judge_read.Taken.{Taken}
 use Rattle.halls.specs.declared.view.FoundIndices.{FoundIndices}
 use Rattle.halls.specs.declared.view.FoundIndices.the-variants.{Indices as Seen, Absent as Unseen}
@@ -116,3 +121,50 @@ orEmptyList Unresolved = record { pointer = 0; count = 0; capacity = 0 }
 
 abbrev pub headerOrEmpty : Sections → ℕ → PointerListHeader
 headerOrEmpty s va = orEmptyList (headerAt s va)
+
+-- ---- what the pass that judges carries on its way
+
+-- the vertex bytes and the indices of a view
+abbrev pub contentSeen : FoundBuffer → ℕ
+contentSeen NotFound = 0
+contentSeen (Buffer b) = b .«vertex_count» * b .«vertex_stride»
+
+abbrev pub heldSeen : FoundIndices → ℕ
+heldSeen Unseen = 0
+heldSeen (Seen v) = heldCount v
+
+-- the geometry of a view with both parts, as a hall's
+unfoldable pub fullShown : Sections → GeometryView → VertexBuffer → IndexView → FullGeometry
+fullShown s v b i = record {
+  shader = v .shader;
+  indexCount = v .«index_count»;
+  triangleCount = v .«triangle_count»;
+  vertexCount = v .«vertex_count»;
+  stride = v .stride;
+  declaration = orPositionOnly (b .declaration) (b .«vertex_stride»);
+  vertices = record { layout = 0; stride = b .«vertex_stride»; count = b .«vertex_count»; content = verticesOf s b .content };
+  indices = indicesSeen s i;
+}
+
+-- its numbers
+abbrev pub headSeen : GeometryView → VertexBuffer → IndexView → GeometryHead
+headSeen v b i = record {
+  shader = v .shader;
+  «index_count» = v .«index_count»;
+  «triangle_count» = v .«triangle_count»;
+  «vertex_count» = v .«vertex_count»;
+  stride = v .stride;
+  declaration = orPositionOnly (b .declaration) (b .«vertex_stride»);
+  layout = 0;
+  «vertices_stride» = b .«vertex_stride»;
+  «vertices_count» = b .«vertex_count»;
+  «indices_count» = i .count;
+  held = heldCount i;
+}
+
+-- sums that fit their fields
+pub record Fitting (t : Taken) : Type 0 where
+  pub models : t .models < 2 ^ 64
+  pub geometries : t .geometries < 2 ^ 64
+  pub image : t .units < 2 ^ 64
+  pub long : t .«length» < 2 ^ 64

@@ -26,7 +26,7 @@ fn wide(b: u8) -> u16
     b as u16
 }
 
-fn u16_at(b: &[u8], off: usize) -> u16
+pub fn u16_at(b: &[u8], off: usize) -> u16
     requires { ⌜ off + 2 ≤ length (now b) ⌝ }
     ensures { λ r. ⌜ r ≡ le (part (now (b .entry)) off 2) ⌝ }
 {

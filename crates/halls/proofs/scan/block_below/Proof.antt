@@ -8,7 +8,7 @@ use Rattle.halls.proofs.scan.block_below.Statement.{statement}
 use Rattle.halls.proofs.scan.block_below.Tie as tie
 
 abbrev Inv-loop : tie.InvT-loop
-Inv-loop list at limit below₀ i₀ below i = Counted list at limit below i
+Inv-loop list at limit below₀ i₀ below i = Counted 4 list at limit below i
 
 abbrev μ-loop : tie.MeasureT-loop
 μ-loop list at limit below₀ i₀ below i = 64 - i
@@ -26,7 +26,7 @@ block-below-spec =
     (tie.spec
     Inv-loop
     μ-loop
-    (λ c. counted-start _ _ _)
+    (λ c. counted-start _ _ _ _)
     (λ c. omega arith)
     (λ c. omega arith)
     (λ c κs. search needs)

@@ -9,7 +9,7 @@ use Rattle.halls.proofs.scan.each_below.Statement.{statement}
 use Rattle.halls.proofs.scan.each_below.Tie as tie
 
 abbrev Inv-loop : tie.InvT-loop
-Inv-loop list at count limit i₀ i = Below list at count limit i
+Inv-loop list at count limit i₀ i = Below 4 list at count limit i
 
 abbrev μ-loop : tie.MeasureT-loop
 μ-loop list at count limit i₀ i = count - i
@@ -18,13 +18,13 @@ fails : tie.Need-returns Inv-loop μ-loop
 fails c =
     let turn = c .before .before .before in
     let start = turn .before .before in
-    sym (below-fails (turn .loop .inv) 1 (omega arith) (first-one (start .args .list .now) _ _ _ (c .before .u32-at .ensures) ∙ le-ltb _ _ (c .if1 .taken)))
+    sym (below-fails (turn .loop .inv) 1 (omega arith) (first-one 4 (start .args .list .now) _ _ _ (c .before .u32-at .ensures) ∙ le-ltb _ _ (c .if1 .taken)))
 
 again : tie.Need-loop-again Inv-loop μ-loop
 again c =
     let turn = c .before .before .before in
     let start = turn .before .before in
-    below-more (turn .loop .inv) 1 (omega arith) (first-one (start .args .list .now) _ _ _ (c .before .u32-at .ensures) ∙ lt-ltb _ _ (c .if1 .left))
+    below-more (turn .loop .inv) 1 (omega arith) (first-one 4 (start .args .list .now) _ _ _ (c .before .u32-at .ensures) ∙ lt-ltb _ _ (c .if1 .left))
 
 pub each-below-spec : {M : Type 1} → statement M
 each-below-spec =
@@ -32,7 +32,7 @@ each-below-spec =
     (tie.spec
     Inv-loop
     μ-loop
-    (λ c. below-start _ _ _ _)
+    (λ c. below-start _ _ _ _ _)
     (λ c. omega arith)
     (λ c. omega arith)
     (λ c κs. search needs)

@@ -9,7 +9,7 @@ use Rattle.halls.proofs.scan.indices_below.Statement.{statement}
 use Rattle.halls.proofs.scan.indices_below.Tie as tie
 
 abbrev Inv-loop : tie.InvT-loop
-Inv-loop list at count limit i₀ i = Below list at count limit i
+Inv-loop list at count limit i₀ i = Below 4 list at count limit i
 
 abbrev μ-loop : tie.MeasureT-loop
 μ-loop list at count limit i₀ i = count - i
@@ -26,7 +26,7 @@ indices-below-spec =
     (tie.spec
     Inv-loop
     μ-loop
-    (λ c. below-start _ _ _ _)
+    (λ c. below-start _ _ _ _ _)
     (λ c. omega arith)
     (λ c. omega arith)
     (λ c. omega arith)
