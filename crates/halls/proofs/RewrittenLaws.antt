@@ -49,6 +49,22 @@ module _ (b : List ℕ) (n : ℕ) where
       let m₂ : max n (length w + length v) ≡ length w + length v = omega arith in
       rw (l, o, o₂, m, m₂, take-at w (drop (length w) b) (length w) refl, drop-append-add w (drop (length w) b) (length v), drop-drop (length v) (length w) b) (simp append-assoc)
 
+  over-front : (v : List ℕ) → 0 + length v ≡ n → overwrite b 0 v ≡ v ++ drop n b
+  unfolding overwrite
+  over-front v e = rw e
+
+  -- a hall from the front on that is not longer than the old one, and zeros behind it
+  pub rewritten-front : (w : List ℕ) (end : ℕ) → end ≡ 0 + length w → end ≤ n → n ≤ length b → overwrite (overwrite b 0 w) end (replicate (n - end) 0) ≡ rewritten b n w
+  unfolding rewritten
+  rewritten-front w end e h k =
+      let zeros : List ℕ = replicate (n - length w) 0 in
+      let l : length zeros ≡ n - length w = length-replicate (n - length w) 0 in
+      let long : 0 + length (w ++ zeros) ≡ n = rw (length-append, l) (omega arith) in
+      let m : max n (length w) ≡ n = omega arith in
+      let same : end ≡ length w = omega arith in
+      ap (λ (x : ℕ). overwrite (overwrite b 0 w) end (replicate (n - x) 0)) same ∙ ap (λ (x : ℕ). overwrite (overwrite b 0 w) x zeros) e
+      ∙ overwrite-then b 0 (length w) w zeros refl (omega arith) ∙ over-front (w ++ zeros) long ∙ rw m (append-assoc w zeros (drop n b))
+
   -- bytes over the last ones of the old hall and behind it
   pub rewritten-opened : (at : ℕ) (v : List ℕ) → at ≤ n → n ≤ length b → n ≤ at + length v → overwrite b at v ≡ rewritten b n (take at b ++ v)
   unfolding rewritten overwrite

@@ -240,9 +240,24 @@ fn write_parts<'a>(
     let place = v.place;
     let size = (b.vertex_count as usize) * (b.vertex_stride as usize);
     let content = bytes_of(system, graphics, data, size);
-    let raw = bytes_of(system, graphics, place, (v.count as usize) * (v.width as usize));
+    let raw = bytes_of(
+        system,
+        graphics,
+        place,
+        (v.count as usize) * (v.width as usize),
+    );
     let declared = declaration.or_position_only(b.vertex_stride);
-    put_records(out, at, view, declared, b.vertex_stride, b.vertex_count, content, v, raw);
+    put_records(
+        out,
+        at,
+        view,
+        declared,
+        b.vertex_stride,
+        b.vertex_count,
+        content,
+        v,
+        raw,
+    );
     at + (65 + size + 4 * (held(v) as usize))
 }
 

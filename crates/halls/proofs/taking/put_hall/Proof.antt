@@ -1,47 +1,39 @@
+-- The list from the front on, and zeros behind it where the old one was longer.
+use mathlib.Core.Path.{sym, ap, _∙_}
+use native.Mathlib.Omega.{arith}
 use borrow.Author.Needs.{needs}
+use mathlib.Core.List.{List}
+use Prim.Native.Nat.{ℕ, _-_}
+use lib.ListN.{length, replicate}
+use Rattle.sections.specs.Edit.{overwrite}
+use Rattle.sections.proofs.EditLaws.{edited-fits, overwrite-length}
+use Rattle.halls.proofs.RewrittenLaws.{rewritten-opened, rewritten-front}
 use Rattle.halls.proofs.taking.put_hall.Statement.{statement}
 use Rattle.halls.proofs.taking.put_hall.Tie as tie
-use Rattle.halls.proofs.taking.put_hall.Reads as reads
-use Rattle.halls.proofs.taking.put_hall.Lts as lts
-use Rattle.halls.proofs.write_taken.write_taken_models.Reads as write-taken-models-reads
-use Rattle.sections.proofs.zero.Reads as zero-reads
 
--- src/taking.rt:103:9
-write-taken-models-requires : tie.Need-write-taken-models-requires
-write-taken-models-requires c κs = search needs
+longer : tie.Need-returns
+longer c =
+    let start = c .before .before .before .before .before .before .before .before .before in
+    let put = c .before .before .before .write-taken-models .ensures in
+    put .1 ∙ rewritten-opened (start .args .hall .now) (start .args .n) 0 _ (omega arith) (start .pre .3) (omega (arith, put .0, c .if1 .taken))
 
--- src/taking.rt:105:9
-same-length : tie.Need-same-length
-same-length c = search needs
-
--- src/taking.rt:105:9
-returns : tie.Need-returns
-returns c = ?
-
--- src/taking.rt:107:21
-sub-zero : tie.Need-sub-zero
-sub-zero c = search needs
-
--- src/taking.rt:107:5
-zero-requires : tie.Need-zero-requires
-zero-requires c κs = search needs
-
--- src/taking.rt:99:1
-same-length-2 : tie.Need-same-length-2
-same-length-2 c = search needs
-
--- src/taking.rt:99:1
-returns-2 : tie.Need-returns-2
-returns-2 c = ?
+shorter : tie.Need-returns-2
+shorter c =
+    let start = c .before .before .before .before .before .before .before .before .before .before .before .before .before in
+    let put = c .before .before .before .before .before .before .before .write-taken-models .ensures in
+    let end : ℕ = c .before .before .before .before .before .before .before .write-taken-models .result in
+    let one = ap length (put .1) ∙ overwrite-length (start .args .hall .now) 0 _ (omega (arith, start .pre .4)) in
+    edited-fits _ (c .before .before .zero .ensures) (omega (arith, one, start .pre .3, c .before .before .before .before .if1 .left))
+    ∙ ap (λ (x : List ℕ). overwrite x end (replicate (start .args .n - end) 0)) (put .1) ∙ rewritten-front (start .args .hall .now) (start .args .n) _ _ (put .0) (omega (arith, c .before .before .before .before .if1 .left)) (start .pre .3)
 
 pub put-hall-spec : {M : Type 1} → statement M
 put-hall-spec =
     tie.close
     (tie.spec
-    write-taken-models-requires
-    same-length
-    returns
-    sub-zero
-    zero-requires
-    same-length-2
-    returns-2)
+    (λ c κs. search needs)
+    (λ c. search needs)
+    longer
+    (λ c. search needs)
+    (λ c κs. search needs)
+    (λ c. search needs)
+    shorter)

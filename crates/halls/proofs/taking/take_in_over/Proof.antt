@@ -1,136 +1,148 @@
+-- Each refusal is the one that `takeIn` proposes or the verdict on what it proposes; else the list of what was read is that hall's.
+use mathlib.Core.Path.{sym, ap, _∙_}
+use Prim.Native.Nat.{min}
+use native.Mathlib.Omega.{arith}
 use borrow.Author.Needs.{needs}
+use borrow.Author.Tests.{not-true, not-false}
+use lib.ListN.{length}
+use Rattle.sections.specs.Address.{sections}
+use Rattle.sections.proofs.AddressLaws.{limit-each}
+use Rattle.halls.specs.Calls.{takeIn}
+use Rattle.halls.specs.Step.{stateIn}
+use Rattle.halls.proofs.ListBytes.{wholeNumbers, list-short}
+use Rattle.halls.proofs.StepLaws.{old, stays-barred, answered}
+use Rattle.halls.proofs.TakenLaws.{taken-limit, taken-absent, taken-refused, taken-few, taken-is, taken-fails, taken-long, taken-short, taken-over}
 use Rattle.halls.proofs.taking.take_in_over.Statement.{statement}
 use Rattle.halls.proofs.taking.take_in_over.Tie as tie
-use Rattle.halls.proofs.taking.take_in_over.Reads as reads
-use Rattle.halls.proofs.taking.take_in_over.Lts as lts
-use Rattle.halls.proofs.answer.refused.Reads as refused-reads
-use Rattle.halls.proofs.judge_read.judge_models.Reads as judge-models-reads
-use Rattle.halls.proofs.measure.measure_models.Reads as measure-models-reads
-use Rattle.halls.proofs.pointers.list_bytes.Reads as list-bytes-reads
-use Rattle.halls.proofs.pointers.unresolved_list.Reads as unresolved-list-reads
-use Rattle.halls.proofs.taking.header_at.Reads as header-at-reads
-use Rattle.halls.proofs.taking.put_hall.Reads as put-hall-reads
-use Rattle.halls.proofs.walk.limits_lowest.Reads as limits-lowest-reads
-use Rattle.halls.proofs.walk.lower.Reads as lower-reads
-use Rattle.sections.proofs.lists.PointerListHeader.len.Reads as len-reads
-use Rattle.sections.proofs.within_limit.Reads as within-limit-reads
 
--- src/taking.rt:58:9
-within-limit-requires : tie.Need-within-limit-requires
-within-limit-requires c κs = search needs
+over-limit : tie.Need-returns
+over-limit c =
+    let start = c .before .before .before .before .before .before in
+    let a = start .args in
+    let s = sections (a .system .now) (a .graphics .now) in
+    let o = old (a .hall .now) (a .n) (λ i. c .before .before .before .before .before .slice-known .given i .fits) (start .pre) in
+    let beyond = sym (c .before .before .within-limit .ensures) ∙ not-true _ (c .before .if1 .taken) in
+    answered (c .refused .ensures) (stays-barred (takeIn s (a .va)) (a .hall .now) (a .n) o 1 (taken-limit s (a .va) (stateIn (a .hall .now) (a .n)) beyond))
 
--- src/taking.rt:59:9
-refused-requires : tie.Need-refused-requires
-refused-requires c κs = search needs
+absent : tie.Need-returns-2
+absent c =
+    let start = c .before .before .before .before .before .before .before .before .before .before in
+    let a = start .args in
+    let s = sections (a .system .now) (a .graphics .now) in
+    let o = old (a .hall .now) (a .n) (λ i. c .before .before .before .before .before .before .before .before .before .slice-known .given i .fits) (start .pre) in
+    let within = sym (c .before .before .before .before .before .before .within-limit .ensures) ∙ not-false _ (c .before .before .before .before .before .if1 .left) in
+    let gone = sym (c .before .before .unresolved-list .ensures) ∙ c .before .if2 .taken in
+    answered (c .refused2 .ensures)
+    (stays-barred (takeIn s (a .va)) (a .hall .now) (a .n) o 2 (taken-absent s (a .va) (stateIn (a .hall .now) (a .n)) within _ (c .before .before .before .before .header-at .ensures) _ (c .before .before .before .len .ensures) gone))
 
--- src/taking.rt:59:9
-returns : tie.Need-returns
-returns c = ?
+measure-requires : tie.Need-measure-models-requires
+measure-requires c κs =
+    let a = c .before .before .before .before .before .before .before .before .before .before .args in
+    let s = sections (a .system .now) (a .graphics .now) in
+    let short = list-short s 8 (c .before .before .before .len .result) (c .before .before .before .before .header-at .result .pointer) (omega arith) (omega arith) in
+    omega (arith, short, ap length (c .list-bytes .ensures))
 
--- src/taking.rt:61:9
-header-at-requires : tie.Need-header-at-requires
-header-at-requires c κs = search needs
+not-read : tie.Need-returns-3
+not-read c =
+    let start = c .before .before .before .before .before .before .before .before .before .before .before .before .before .before in
+    let a = start .args in
+    let s = sections (a .system .now) (a .graphics .now) in
+    let o = old (a .hall .now) (a .n) (λ i. c .before .before .before .before .before .before .before .before .before .before .before .before .before .slice-known .given i .fits) (start .pre) in
+    let within = sym (c .before .before .before .before .before .before .before .before .before .before .within-limit .ensures) ∙ not-false _ (c .before .before .before .before .before .before .before .before .before .if1 .left) in
+    let there = sym (c .before .before .before .before .before .before .unresolved-list .ensures) ∙ c .before .before .before .before .before .if2 .left in
+    let is = taken-refused s (a .va) (stateIn (a .hall .now) (a .n)) within _ (c .before .before .before .before .before .before .before .before .header-at .ensures) _ (c .before .before .before .before .before .before .before .len .ensures) there _ (c .before .before .before .before .list-bytes .ensures) _ (c .before .before .before .measure-models .ensures) (c .before .if3 .taken) in
+    answered (c .refused3 .ensures) (stays-barred (takeIn s (a .va)) (a .hall .now) (a .n) o _ is)
 
--- src/taking.rt:62:17
-len-requires : tie.Need-len-requires
-len-requires c κs = search needs
+judge-requires : tie.Need-judge-models-requires
+judge-requires c κs =
+    let start = c .before .before .before .before .before .before .before .before .before .before .before .before .before in
+    let a = start .args in
+    let s = sections (a .system .now) (a .graphics .now) in
+    let within = sym (c .before .before .before .before .before .before .before .before .before .within-limit .ensures) ∙ not-false _ (c .before .before .before .before .before .before .before .before .if1 .left) in
+    let there = sym (c .before .before .before .before .before .unresolved-list .ensures) ∙ c .before .before .before .before .if2 .left in
+    let each = limit-each s within in
+    let short = list-short s 8 (c .before .before .before .before .before .before .len .result) (c .before .before .before .before .before .before .before .header-at .result .pointer) (omega arith) (omega arith) in
+    let few = taken-few s (a .va) (stateIn (a .hall .now) (a .n)) within _ (c .before .before .before .before .before .before .before .header-at .ensures) _ (c .before .before .before .before .before .before .len .ensures) there _ (c .before .before .before .list-bytes .ensures) _ (c .before .before .measure-models .ensures) (c .if3 .left) in
+    (each .0, each .1, omega (arith, short, ap length (c .before .before .before .list-bytes .ensures)), few)
 
--- src/taking.rt:62:17
-cast-count : tie.Need-cast-count
-cast-count c = search needs
+failing : tie.Need-returns-4
+failing c =
+    let start = c .before .before .before .before .before .before .before .before .before .before .before .before .before .before .before .before .before .before in
+    let a = start .args in
+    let s = sections (a .system .now) (a .graphics .now) in
+    let o = old (a .hall .now) (a .n) (λ i. c .before .before .before .before .before .before .before .before .before .before .before .before .before .before .before .before .before .slice-known .given i .fits) (start .pre) in
+    let within = sym (c .before .before .before .before .before .before .before .before .before .before .before .before .before .before .within-limit .ensures) ∙ not-false _ (c .before .before .before .before .before .before .before .before .before .before .before .before .before .if1 .left) in
+    let there = sym (c .before .before .before .before .before .before .before .before .before .before .unresolved-list .ensures) ∙ c .before .before .before .before .before .before .before .before .before .if2 .left in
+    let is = taken-is s (a .va) (stateIn (a .hall .now) (a .n)) within _ (c .before .before .before .before .before .before .before .before .before .before .before .before .header-at .ensures) _ (c .before .before .before .before .before .before .before .before .before .before .before .len .ensures) there _ (c .before .before .before .before .before .before .before .before .list-bytes .ensures) _ (c .before .before .before .before .before .before .before .measure-models .ensures) (c .before .before .before .before .before .if3 .left) in
+    let low = c .before .before .lower .ensures ∙ ap (min (c .before .before .before .before .judge-models .result .lowest)) (c .before .before .before .limits-lowest .ensures) in
+    answered (c .refused4 .ensures) (taken-fails s (a .va) (a .hall .now) (a .n) o (wholeNumbers 8 (c .before .before .before .before .before .before .before .before .list-bytes .result .now)) is (c .before .before .before .before .judge-models .result) (c .before .before .before .before .judge-models .ensures) _ low (c .before .if4 .taken))
 
--- src/taking.rt:63:8
-unresolved-list-requires : tie.Need-unresolved-list-requires
-unresolved-list-requires c κs = search needs
+short-buffer : tie.Need-returns-5
+short-buffer c =
+    let start = c .before .before .before .before .before .before .before .before .before .before .before .before .before .before .before .before .before .before .before .before in
+    let a = start .args in
+    let s = sections (a .system .now) (a .graphics .now) in
+    let o = old (a .hall .now) (a .n) (λ i. c .before .before .before .before .before .before .before .before .before .before .before .before .before .before .before .before .before .before .before .slice-known .given i .fits) (start .pre) in
+    let within = sym (c .before .before .before .before .before .before .before .before .before .before .before .before .before .before .before .before .within-limit .ensures) ∙ not-false _ (c .before .before .before .before .before .before .before .before .before .before .before .before .before .before .before .if1 .left) in
+    let there = sym (c .before .before .before .before .before .before .before .before .before .before .before .before .unresolved-list .ensures) ∙ c .before .before .before .before .before .before .before .before .before .before .before .if2 .left in
+    let is = taken-is s (a .va) (stateIn (a .hall .now) (a .n)) within _ (c .before .before .before .before .before .before .before .before .before .before .before .before .before .before .header-at .ensures) _ (c .before .before .before .before .before .before .before .before .before .before .before .before .before .len .ensures) there _ (c .before .before .before .before .before .before .before .before .before .before .list-bytes .ensures) _ (c .before .before .before .before .before .before .before .before .before .measure-models .ensures) (c .before .before .before .before .before .before .before .if3 .left) in
+    let judged = c .before .before .before .before .before .before .judge-models in
+    let low = c .before .before .before .before .lower .ensures ∙ ap (min (judged .result .lowest)) (c .before .before .before .before .before .limits-lowest .ensures) in
+    answered (c .refused5 .ensures) (taken-short s (a .va) (a .hall .now) (a .n) o (wholeNumbers 8 (c .before .before .before .before .before .before .before .before .before .before .list-bytes .result .now)) is (judged .result) (judged .ensures) _ low (c .before .before .before .if4 .left) (c .before .if5 .taken))
 
--- src/taking.rt:64:9
-refused-requires-2 : tie.Need-refused-requires-2
-refused-requires-2 c κs = search needs
+put-requires : tie.Need-put-hall-requires
+put-requires c κs =
+    let start = c .before .before .before .before .before .before .before .before .before .before .before .before .before .before .before .before .before .before .before .before in
+    let a = start .args in
+    let s = sections (a .system .now) (a .graphics .now) in
+    let o = old (a .hall .now) (a .n) (λ i. c .before .before .before .before .before .before .before .before .before .before .before .before .before .before .before .before .before .before .before .slice-known .given i .fits) (start .pre) in
+    let within = sym (c .before .before .before .before .before .before .before .before .before .before .before .before .before .before .before .before .within-limit .ensures) ∙ not-false _ (c .before .before .before .before .before .before .before .before .before .before .before .before .before .before .before .if1 .left) in
+    let there = sym (c .before .before .before .before .before .before .before .before .before .before .before .before .unresolved-list .ensures) ∙ c .before .before .before .before .before .before .before .before .before .before .before .if2 .left in
+    let is = taken-is s (a .va) (stateIn (a .hall .now) (a .n)) within _ (c .before .before .before .before .before .before .before .before .before .before .before .before .before .before .header-at .ensures) _ (c .before .before .before .before .before .before .before .before .before .before .before .before .before .len .ensures) there _ (c .before .before .before .before .before .before .before .before .before .before .list-bytes .ensures) _ (c .before .before .before .before .before .before .before .before .before .measure-models .ensures) (c .before .before .before .before .before .before .before .if3 .left) in
+    let judged = c .before .before .before .before .before .before .judge-models in
+    let low = c .before .before .before .before .lower .ensures ∙ ap (min (judged .result .lowest)) (c .before .before .before .before .before .limits-lowest .ensures) in
+    let each = limit-each s within in
+    let short = list-short s 8 (c .before .before .before .before .before .before .before .before .before .before .before .before .before .len .result) (c .before .before .before .before .before .before .before .before .before .before .before .before .before .before .header-at .result .pointer) (omega (arith, c .before .before .before .before .before .before .before .before .before .before .before .before .before .len .ok)) (omega arith) in
+    let long = taken-long s (a .va) (a .hall .now) (a .n) o (wholeNumbers 8 (c .before .before .before .before .before .before .before .before .before .before .list-bytes .result .now)) is (judged .result) (judged .ensures) _ low (c .before .before .before .if4 .left) in
+    (each .0, each .1, omega (arith, short, ap length (c .before .before .before .before .before .before .before .before .before .before .list-bytes .ensures)), o .within, omega (arith, long, c .before .if5 .left))
 
--- src/taking.rt:64:9
-returns-2 : tie.Need-returns-2
-returns-2 c = ?
-
--- src/taking.rt:66:9
-list-bytes-requires : tie.Need-list-bytes-requires
-list-bytes-requires c κs = search needs
-
--- src/taking.rt:67:9
-measure-models-requires : tie.Need-measure-models-requires
-measure-models-requires c κs = ?
-
--- src/taking.rt:69:9
-refused-requires-3 : tie.Need-refused-requires-3
-refused-requires-3 c κs = search needs
-
--- src/taking.rt:69:9
-returns-3 : tie.Need-returns-3
-returns-3 c = ?
-
--- src/taking.rt:71:9
-judge-models-requires : tie.Need-judge-models-requires
-judge-models-requires c κs = ?
-
--- src/taking.rt:72:9
-limits-lowest-requires : tie.Need-limits-lowest-requires
-limits-lowest-requires c κs = search needs
-
--- src/taking.rt:73:9
-lower-requires : tie.Need-lower-requires
-lower-requires c κs = search needs
-
--- src/taking.rt:75:9
-refused-requires-4 : tie.Need-refused-requires-4
-refused-requires-4 c κs = search needs
-
--- src/taking.rt:75:9
-returns-4 : tie.Need-returns-4
-returns-4 c = ?
-
--- src/taking.rt:78:9
-refused-requires-5 : tie.Need-refused-requires-5
-refused-requires-5 c κs = search needs
-
--- src/taking.rt:78:9
-returns-5 : tie.Need-returns-5
-returns-5 c = ?
-
--- src/taking.rt:80:5
-put-hall-requires : tie.Need-put-hall-requires
-put-hall-requires c κs = ?
-
--- src/taking.rt:48:1
-same-length : tie.Need-same-length
-same-length c = search needs
-
--- src/taking.rt:48:1
-returns-6 : tie.Need-returns-6
-returns-6 c = ?
+taken-in : tie.Need-returns-6
+taken-in c =
+    let start = c .before .before .before .before .before .before .before .before .before .before .before .before .before .before .before .before .before .before .before .before .before .before .before in
+    let a = start .args in
+    let s = sections (a .system .now) (a .graphics .now) in
+    let o = old (a .hall .now) (a .n) (λ i. c .before .before .before .before .before .before .before .before .before .before .before .before .before .before .before .before .before .before .before .before .before .before .slice-known .given i .fits) (start .pre) in
+    let within = sym (c .before .before .before .before .before .before .before .before .before .before .before .before .before .before .before .before .before .before .before .within-limit .ensures) ∙ not-false _ (c .before .before .before .before .before .before .before .before .before .before .before .before .before .before .before .before .before .before .if1 .left) in
+    let there = sym (c .before .before .before .before .before .before .before .before .before .before .before .before .before .before .before .unresolved-list .ensures) ∙ c .before .before .before .before .before .before .before .before .before .before .before .before .before .before .if2 .left in
+    let is = taken-is s (a .va) (stateIn (a .hall .now) (a .n)) within _ (c .before .before .before .before .before .before .before .before .before .before .before .before .before .before .before .before .before .header-at .ensures) _ (c .before .before .before .before .before .before .before .before .before .before .before .before .before .before .before .before .len .ensures) there _ (c .before .before .before .before .before .before .before .before .before .before .before .before .before .list-bytes .ensures) _ (c .before .before .before .before .before .before .before .before .before .before .before .before .measure-models .ensures) (c .before .before .before .before .before .before .before .before .before .before .if3 .left) in
+    let judged = c .before .before .before .before .before .before .before .before .before .judge-models in
+    let low = c .before .before .before .before .before .before .before .lower .ensures ∙ ap (min (judged .result .lowest)) (c .before .before .before .before .before .before .before .before .limits-lowest .ensures) in
+    taken-over s (a .va) (a .hall .now) (a .n) o (wholeNumbers 8 (c .before .before .before .before .before .before .before .before .before .before .before .before .before .list-bytes .result .now)) is (judged .result) (judged .ensures) _ low (c .before .before .before .before .before .before .if4 .left) (c .before .before .before .before .if5 .left) (c .before .before .put-hall .ensures)
 
 pub take-in-over-spec : {M : Type 1} → statement M
 take-in-over-spec =
     tie.close
     (tie.spec
-    within-limit-requires
-    refused-requires
-    returns
-    header-at-requires
-    len-requires
-    cast-count
-    unresolved-list-requires
-    refused-requires-2
-    returns-2
-    list-bytes-requires
-    measure-models-requires
-    refused-requires-3
-    returns-3
-    judge-models-requires
-    limits-lowest-requires
-    lower-requires
-    refused-requires-4
-    returns-4
-    refused-requires-5
-    returns-5
-    put-hall-requires
-    same-length
-    returns-6)
+    (λ c κs. search needs)
+    (λ c κs. search needs)
+    over-limit
+    (λ c κs. search needs)
+    (λ c κs. search needs)
+    (λ c. search needs)
+    (λ c κs. search needs)
+    (λ c κs. search needs)
+    absent
+    (λ c κs. search needs)
+    measure-requires
+    (λ c κs. search needs)
+    not-read
+    judge-requires
+    (λ c κs. search needs)
+    (λ c κs. search needs)
+    (λ c κs. search needs)
+    failing
+    (λ c κs. search needs)
+    short-buffer
+    put-requires
+    (λ c. search needs)
+    taken-in)
