@@ -1,0 +1,3 @@
+pub mod PlacedLaws
+pub mod BlockLaws
+pub mod LengthLaws
