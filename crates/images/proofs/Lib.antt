@@ -1,3 +1,4 @@
 pub mod PlacedLaws
 pub mod BlockLaws
 pub mod LengthLaws
+pub mod GeometryLaws
