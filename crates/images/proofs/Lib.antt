@@ -2,3 +2,4 @@ pub mod PlacedLaws
 pub mod BlockLaws
 pub mod LengthLaws
 pub mod GeometryLaws
+pub mod ModelLaws
