@@ -3,3 +3,4 @@ pub mod BlockLaws
 pub mod LengthLaws
 pub mod GeometryLaws
 pub mod ModelLaws
+pub mod ImageLaws
