@@ -1,7 +1,7 @@
 -- The blocks of an image: their lengths, and that each field is read as it was written.
 use mathlib.Core.Path.{_≡_, refl}
 use mathlib.Core.List.{List}
-use Prim.Native.Nat.{ℕ, _*_, _^_, _<_}
+use Prim.Native.Nat.{ℕ, _^_, _<_}
 use lib.ListN.{length}
 use Rattle.sections.specs.Edit.{overwrite, part}
 use Rattle.sections.specs.Le.{bytes, field}

@@ -1,11 +1,11 @@
 -- A geometry's image at an offset of a section is read back from there.
-use mathlib.Core.Path.{_≡_, refl, sym, ap, _∙_}
+use mathlib.Core.Path.{_≡_, ap}
 use mathlib.Core.Bool.{true, false}
-use mathlib.Core.List.{List, [], _++_}
+use mathlib.Core.List.{List, _++_}
 use mathlib.Core.Option.{some}
 use Prim.Native.Nat.{ℕ, _+_, _*_, _^_, _≤_, _<_}
 use native.Mathlib.Omega.{arith}
-use borrow.Author.Tests.{ltb-true, ne-eqb}
+use borrow.Author.Tests.{ltb-true}
 use lib.Dec.{eqb, lit<, ltb}
 use lib.ListN.{length, getD}
 use Rattle.sections.specs.Address.{Sections, located, resolved}
@@ -21,10 +21,7 @@ use Rattle.vertices.specs.declared.buffer.StoredDeclaration.the-variants.{Decla
 use Rattle.vertices.specs.declared.buffer.VertexBuffer.{VertexBuffer}
 use Rattle.vertices.specs.declared.buffer.VertexBufferLayout.the-variants.{Legacy}
 use Rattle.halls.specs.Blocks.{geometryBlock, indexBlock}
-use Rattle.halls.specs.Every.{Each}
 use Rattle.halls.specs.Hall.{FullGeometry, FullGeometryInWidth, listedGeometry}
-use Rattle.halls.specs.ImageSize.{padded}
-use Rattle.halls.specs.List.{Vertices, Indices}
 use Rattle.halls.specs.Reading.{indicesAt, indicesOf, verticesOf, vertexCountOf, geometryWith, geometryOf}
 use Rattle.halls.proofs.EveryLaws.{every-each, each-below}
 use Rattle.halls.proofs.SoundEdits.{each-to}
@@ -32,10 +29,7 @@ use Rattle.halls.proofs.SoundLaws.{SoundGeometry}
 use Rattle.images.specs.Image.{base, filled, geometryBlockBytes, VertexBlock, vertexBlockBytes, indexBlockBytes, vertexBlockAt, declarationAt, contentAt, indexBlockAt, indicesAt as indicesPlace, geometryBlockOf, vertexBlockOf, indexBlockOf, geometryImage}
 use Rattle.images.proofs.BlockLaws.{geometry-block-length, vertex-block-length, index-block-length, GeometryBlockFits, geometry-block-read, VertexBlockFits, legacyBlock, vertex-block-read, IndexBlockFits, index-block-read}
 use Rattle.images.proofs.LengthLaws.{filled-length}
-use Rattle.images.proofs.PlacedLaws.{Placed, placed-left, placed-right, placed-part, placed-end, alone, placed-located, placed-range, placed-resolved}
-
-not-zero : (n : ℕ) → 0 < n → eqb n 0 ≡ false
-not-zero n h = ne-eqb n 0 (λ e. omega arith)
+use Rattle.images.proofs.PlacedLaws.{Placed, placed-left, placed-right, placed-part, placed-end, systemOnly, placed-located, placed-range, placed-resolved, not-zero}
 
 -- ---- where a geometry's parts stand
 
@@ -57,21 +51,21 @@ geometry-placed section at g p =
     let index : List ℕ = indexBlockBytes (indexBlockOf at g) in
     let items : List ℕ = run 2 (g .indices .items) in
     let block-long : length (filled block) ≡ 0xA0 = rw (filled-length block, geometry-block-length (geometryBlockOf at g)) in
-    let p1 : Placed section (vertexBlockAt at) (vertexBlock ++ (declaration ++ (filled content ++ (index ++ filled items)))) =
+    let behind-block : Placed section (vertexBlockAt at) (vertexBlock ++ (declaration ++ (filled content ++ (index ++ filled items)))) =
     placed-right (filled block) _ (vertexBlockAt at) (omega arith) p in
-    let p2 : Placed section (declarationAt at) (declaration ++ (filled content ++ (index ++ filled items))) =
-    placed-right vertexBlock _ (declarationAt at) (omega (arith, vertex-block-length (vertexBlockOf at g))) p1 in
-    let p3 : Placed section (contentAt at) (filled content ++ (index ++ filled items)) =
-    placed-right declaration _ (contentAt at) (omega (arith, declaration-length (g .declaration))) p2 in
-    let p4 : Placed section (indexBlockAt at g) (index ++ filled items) = placed-right (filled content) _ (indexBlockAt at g) (omega (arith, filled-length content)) p3 in
-    let p5 : Placed section (indicesPlace at g) (filled items) = placed-right index _ (indicesPlace at g) (omega (arith, index-block-length (indexBlockOf at g))) p4 in
+    let behind-vertex-block : Placed section (declarationAt at) (declaration ++ (filled content ++ (index ++ filled items))) =
+    placed-right vertexBlock _ (declarationAt at) (omega (arith, vertex-block-length (vertexBlockOf at g))) behind-block in
+    let behind-declaration : Placed section (contentAt at) (filled content ++ (index ++ filled items)) =
+    placed-right declaration _ (contentAt at) (omega (arith, declaration-length (g .declaration))) behind-vertex-block in
+    let behind-content : Placed section (indexBlockAt at g) (index ++ filled items) = placed-right (filled content) _ (indexBlockAt at g) (omega (arith, filled-length content)) behind-declaration in
+    let behind-index-block : Placed section (indicesPlace at g) (filled items) = placed-right index _ (indicesPlace at g) (omega (arith, index-block-length (indexBlockOf at g))) behind-content in
     record {
       block = placed-part block (placed-left (filled block) _ p);
-      vertexBlock = placed-left vertexBlock _ p1;
-      declaration = placed-left declaration _ p2;
-      content = placed-part content (placed-left (filled content) _ p3);
-      indexBlock = placed-left index _ p4;
-      indices = placed-part items p5;
+      vertexBlock = placed-left vertexBlock _ behind-block;
+      declaration = placed-left declaration _ behind-vertex-block;
+      content = placed-part content (placed-left (filled content) _ behind-declaration);
+      indexBlock = placed-left index _ behind-content;
+      indices = placed-part items behind-index-block;
     }
 
 -- ---- blocks that lead to vertices and indices
@@ -136,12 +130,12 @@ module _ (section : List ℕ) (short : length section ≤ 67108864) (at : ℕ) (
   unfolding indexBlockOf
   index-block-fits = let e = ends in record { count = w .indicesCount; size = lit< tt; legacy = omega arith; sized = lit< tt }
 
-  declaration-stored : storedDeclaration (alone section) (base + declarationAt at) ≡ Declaration (g .declaration)
+  declaration-stored : storedDeclaration (systemOnly section) (base + declarationAt at) ≡ Declaration (g .declaration)
   unfolding storedDeclaration
   declaration-stored =
       rw (placed-resolved section short (declarationAt at) (declarationBytes (g .declaration)) 16 (declaration-length (g .declaration)) (p .declaration), declaration-inverse (g .declaration) (w .declaration))
 
-  buffer-found : vertexBufferAt (alone section) (base + vertexBlockAt at) 0 (g .vertexCount) (g .stride) ≡ some (bufferOf (vertexBlockOf at g) (Declaration (g .declaration)) (contentAt at))
+  buffer-found : vertexBufferAt (systemOnly section) (base + vertexBlockAt at) 0 (g .vertexCount) (g .stride) ≡ some (bufferOf (vertexBlockOf at g) (Declaration (g .declaration)) (contentAt at))
   unfolding vertexBufferAt vertexBlockOf
   buffer-found =
       let b : VertexBlock = vertexBlockOf at g in
@@ -149,16 +143,16 @@ module _ (section : List ℕ) (short : length section ≤ 67108864) (at : ℕ) (
       let place = placed-located section short (contentAt at) (g .vertices .content) (g .vertices .count * g .vertices .stride) (f .content) (p .content) in
       rw (
         placed-resolved section short (vertexBlockAt at) (vertexBlockBytes b) 0x80 (vertex-block-length b) (p .vertexBlock),
-        block-found (alone section) b (contentAt at) vertex-block-fits (omega arith) (f .some-vertices) some-stride place,
+        block-found (systemOnly section) b (contentAt at) vertex-block-fits (omega arith) (f .some-vertices) some-stride place,
         declaration-stored,
       )
 
-  vertices-read : verticesOf (alone section) (bufferOf (vertexBlockOf at g) (Declaration (g .declaration)) (contentAt at)) ≡ g .vertices
+  vertices-read : verticesOf (systemOnly section) (bufferOf (vertexBlockOf at g) (Declaration (g .declaration)) (contentAt at)) ≡ g .vertices
   unfolding verticesOf vertexBlockOf
   vertices-read =
       rw (placed-range section short (contentAt at) (g .vertices .content) (g .vertices .count * g .vertices .stride) (f .content) (p .content), ← (f .layout))
 
-  indices-read : indicesOf (alone section) (indexBlockOf at g) ≡ g .indices
+  indices-read : indicesOf (systemOnly section) (indexBlockOf at g) ≡ g .indices
   unfolding indicesOf indexBlockOf
   indices-read =
       let items : List ℕ = g .indices .items in
@@ -166,9 +160,9 @@ module _ (section : List ℕ) (short : length section ≤ 67108864) (at : ℕ) (
       let some-items : 0 < g .indices .count = omega (arith, f .indices-count, f .some-indices) in
       let read : numbers 2 (g .indices .count) (run 2 items) ≡ items = rw (f .indices-count) (numbers-run 2 items items-below) in
       let found = placed-resolved section short (indicesPlace at g) (run 2 items) (g .indices .count * 2) long (p .indices) in
-      rw (indices-found (alone section) (g .indices .count) (base + indicesPlace at g) (run 2 items) (omega arith) some-items found, read)
+      rw (indices-found (systemOnly section) (g .indices .count) (base + indicesPlace at g) (run 2 items) (omega arith) some-items found, read)
 
-  pub geometry-read : geometryOf (alone section) (g .shader) (geometryBlock (geometryBlockBytes (geometryBlockOf at g))) ≡ listedGeometry g
+  pub geometry-read : geometryOf (systemOnly section) (g .shader) (geometryBlock (geometryBlockBytes (geometryBlockOf at g))) ≡ listedGeometry g
   unfolding geometryOf geometryWith geometryBlockOf vertexCountOf
   geometry-read =
       let b = indexBlockOf at g in

@@ -2,7 +2,7 @@
 use mathlib.Core.Path.{_≡_, refl, sym, ap, _∙_}
 use mathlib.Core.Bool.{Bool, true, false, cond}
 use mathlib.Core.List.{List, [], _∷_, _++_, map}
-use mathlib.Core.Option.{Option, some}
+use mathlib.Core.Option.{some}
 use Prim.Native.Nat.{ℕ, _+_, _*_, _≤_}
 use native.Mathlib.Omega.{arith}
 use borrow.Author.Tests.{le-leb, leb-true}
@@ -30,7 +30,7 @@ use Rattle.images.specs.Image.{base, filled, pointerTo, laid, addresses,
 use Rattle.images.proofs.BlockLaws.{header-length, HeaderFits, header-read}
 use Rattle.images.proofs.LengthLaws.{filled-length, addresses-length, model-image-length, image-length}
 use Rattle.images.proofs.ModelLaws.{pointer-fits, laid-addresses, models-read}
-use Rattle.images.proofs.PlacedLaws.{Placed, placed-whole, placed-left, placed-right, alone, placed-resolved, placed-list}
+use Rattle.images.proofs.PlacedLaws.{Placed, placed-whole, placed-left, placed-right, systemOnly, placed-resolved, placed-list}
 
 -- ---- read
 
@@ -39,13 +39,13 @@ same-both true n = refl
 same-both false n = refl
 
 -- check 13
-few-models : (h : Hall) → countsWithinLimits h ≡ true → (length h ≤ 256) × (geometryCount h ≤ 16384)
+hall-counts : (h : Hall) → countsWithinLimits h ≡ true → (length h ≤ 256) × (geometryCount h ≤ 16384)
 unfolding countsWithinLimits
-few-models h e =
+hall-counts h e =
     let b = both-true (leb (length h) 256) (leb (geometryCount h) 16384) e in
     (leb-true (length h) 256 (b .0), leb-true (geometryCount h) 16384 (b .1))
 
--- check 19
+-- check 19: an image is no longer than a section may be
 pub image-short : (h : Hall) → verdict h ≡ Sound → length (image h) ≤ 67108864
 unfolding imageWithinLimit
 image-short h e = rw (image-length h) (leb-true (imageSize h) 67108864 (verdict-sound h e .image))
@@ -54,7 +54,7 @@ pub image-read : (h : Hall) → HallInWidth h → verdict h ≡ Sound → readLi
 unfolding readList image
 image-read h w e =
     let f : SoundHall h = verdict-sound h e in
-    let few = few-models h (f .counts) in
+    let few = hall-counts h (f .counts) in
     let section : List ℕ = image h in
     let short : length section ≤ 67108864 = image-short h e in
     let n : ℕ = length h in
@@ -63,15 +63,15 @@ image-read h w e =
     let pointers : List ℕ = filled (run 8 addressed) in
     let models : List ℕ = laid modelSize modelImage (modelsAt h) h in
     let pointers-long : length pointers ≡ padded (n * 8) = simp (filled-length, length-run, addresses-length) in
-    let p0 : Placed section 0 (headerBytes header ++ (pointers ++ models)) = placed-whole section in
-    let p1 : Placed section 16 (pointers ++ models) = placed-right (headerBytes header) _ 16 (omega (arith, header-length header)) p0 in
-    let p2 : Placed section (modelsAt h) models = placed-right pointers _ (modelsAt h) (omega arith) p1 in
-    let found : resolved (alone section) base 16 ≡ some (headerBytes header) = placed-resolved section short 0 (headerBytes header) 16 (header-length header) (placed-left (headerBytes header) _ p0) in
+    let whole : Placed section 0 (headerBytes header ++ (pointers ++ models)) = placed-whole section in
+    let behind-header : Placed section 16 (pointers ++ models) = placed-right (headerBytes header) _ 16 (omega (arith, header-length header)) whole in
+    let behind-pointers : Placed section (modelsAt h) models = placed-right pointers _ (modelsAt h) (omega arith) behind-header in
+    let found : resolved (systemOnly section) base 16 ≡ some (headerBytes header) = placed-resolved section short 0 (headerBytes header) 16 (header-length header) (placed-left (headerBytes header) _ whole) in
     let fits : HeaderFits header = record { pointer = pointer-fits n 16 (omega arith); count = omega arith; capacity = omega arith } in
-    let listed = placed-list section short 16 8 addressed n (addresses-length modelSize (modelsAt h) h) (laid-addresses modelSize modelImage model-image-length section short (modelsAt h) h p2) (placed-left pointers _ p1) in
-    let counted : readHeader (alone section) (some (headerBytes header)) ≡ need 2 (listAt (alone section) 8 (headerLength header) (pointerTo n 16)) (readModels (alone section) 0) =
-    ap (λ (x : PointerListHeader). need 2 (listAt (alone section) 8 (headerLength x) (x .pointer)) (readModels (alone section) 0)) (header-read header fits) in
-    rw (found, counted, same-both (eqb n 0) n, listed) (models-read section short (modelsAt h) 0 h w (sound-models h f) p2 (omega arith))
+    let listed = placed-list section short 16 8 addressed n (addresses-length modelSize (modelsAt h) h) (laid-addresses modelSize modelImage model-image-length section short (modelsAt h) h behind-pointers) (placed-left pointers _ behind-header) in
+    let counted : readHeader (systemOnly section) (some (headerBytes header)) ≡ need 2 (listAt (systemOnly section) 8 (headerLength header) (pointerTo n 16)) (readModels (systemOnly section) 0) =
+    ap (λ (x : PointerListHeader). need 2 (listAt (systemOnly section) 8 (headerLength x) (x .pointer)) (readModels (systemOnly section) 0)) (header-read header fits) in
+    rw (found, counted, same-both (eqb n 0) n, listed) (models-read section short (modelsAt h) 0 h w (sound-models h f) behind-pointers (omega arith))
 
 -- ---- taken in
 

@@ -1,7 +1,7 @@
 -- How long the parts of an image and the whole are.
 use mathlib.Core.Path.{_≡_, refl, ap}
 use mathlib.Core.List.{List, [], _∷_}
-use Prim.Native.Nat.{ℕ, suc, _+_, _*_, _^_, _≤_, _<_}
+use Prim.Native.Nat.{ℕ, suc, _+_, _^_, _≤_, _<_}
 use native.Mathlib.Omega.{arith}
 use lib.ListN.{length, length-append, length-replicate}
 use Rattle.vertices.proofs.DeclarationLaws.{declaration-length}
@@ -9,7 +9,7 @@ use Rattle.vertices.proofs.RunLaws.{length-run}
 use Rattle.halls.specs.Every.{sumOf, Each}
 use Rattle.halls.specs.Hall.{FullGeometry, FullModel, Hall}
 use Rattle.halls.specs.ImageSize.{padded, geometrySize, modelSize, imageSize}
-use Rattle.images.specs.Image.{base, filled, laid, addresses, geometryImage, modelImage, image}
+use Rattle.images.specs.Image.{filled, laid, addresses, geometryImage, modelImage, image}
 use Rattle.images.proofs.BlockLaws.{header-length, model-block-length, geometry-block-length, vertex-block-length, index-block-length}
 
 pub filled-length : (part : List ℕ) → length (filled part) ≡ padded (length part)

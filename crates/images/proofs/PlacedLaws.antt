@@ -18,6 +18,7 @@ use Rattle.vertices.proofs.RunLaws.{length-run, numbers-run}
 use Rattle.halls.specs.Reading.{listAt}
 use Rattle.images.specs.Image.{base, filled, pointerTo}
 
+-- so many bytes before them, and any behind
 pub record Placed (section : List ℕ) (at : ℕ) (content : List ℕ) : Type 0 where
   pub before : List ℕ
   pub behind : List ℕ
@@ -28,6 +29,7 @@ pub placed-whole : (section : List ℕ) → Placed section 0 section
 placed-whole section = record { before = []; behind = []; is = sym (append-nil section); offset = refl }
 
 module _ {section : List ℕ} {at : ℕ} where
+  -- the first of two lists, and the second
   pub placed-left : (xs ys : List ℕ) → Placed section at (xs ++ ys) → Placed section at xs
   placed-left xs ys p = record { before = p .before; behind = ys ++ p .behind; is = p .is ∙ rw append-assoc; offset = p .offset }
 
@@ -44,6 +46,7 @@ module _ {section : List ℕ} {at : ℕ} where
   unfolding filled
   placed-part xs p = placed-left xs _ p
 
+  -- they end inside the section
   pub placed-end : (xs : List ℕ) → Placed section at xs → at + length xs ≤ length section
   placed-end xs p = omega (arith, simp length-append at (ap length (p .is)), p .offset)
 
@@ -52,14 +55,15 @@ module _ {section : List ℕ} {at : ℕ} where
   part-placed xs n e p = rw (p .is, drop-at (p .before) (xs ++ p .behind) at (p .offset), take-at xs (p .behind) n e)
 
 -- the sections that an image is read from
-abbrev pub alone : List ℕ → Sections
-alone section = sections section []
+abbrev pub systemOnly : List ℕ → Sections
+systemOnly section = sections section []
 
 module _ (section : List ℕ) (short : length section ≤ 67108864) (at : ℕ) (xs : List ℕ) (n : ℕ) (long : length xs ≡ n) (p : Placed section at xs) where
   inside : leb (at + n) (length section) ≡ true
   inside = le-leb (at + n) (length section) (omega (arith, placed-end xs p))
 
-  pub placed-located : located (alone section) (base + at) n ≡ System at
+  -- the place behind their address, and the bytes there
+  pub placed-located : located (systemOnly section) (base + at) n ≡ System at
   placed-located =
       let low : at ≤ 67108864 = omega (arith, placed-end xs p) in
       let q30 : (base + at) / 2 ^ 30 ≡ 1 = omega arith in
@@ -69,24 +73,25 @@ module _ (section : List ℕ) (short : length section ≤ 67108864) (at : ℕ) (
       let b29 : bit 29 (base + at) ≡ 0 = ap (λ (x : ℕ). x % 2) q29 in
       let b28 : bit 28 (base + at) ≡ 1 = ap (λ (x : ℕ). x % 2) q28 in
       let d : base + at - base ≡ at = omega arith in
-      located-system (alone section) (base + at) n (λ e. omega arith) (λ e. omega arith) (omega arith) ∙ rw (d, inside)
+      located-system (systemOnly section) (base + at) n (λ e. omega arith) (λ e. omega arith) (omega arith) ∙ rw (d, inside)
 
   pub placed-range : partOf section at n ≡ some xs
   unfolding partOf
   placed-range = rw (inside, part-placed xs n long p)
 
-  pub placed-resolved : resolved (alone section) (base + at) n ≡ some xs
+  pub placed-resolved : resolved (systemOnly section) (base + at) n ≡ some xs
   unfolding resolved
   placed-resolved = rw placed-located placed-range
+
+pub not-zero : (n : ℕ) → 0 < n → eqb n 0 ≡ false
+not-zero n h = ne-eqb n 0 (λ e. omega arith)
 
 -- numbers of k bytes, as many as the list has, behind its pointer
 module _ (section : List ℕ) (short : length section ≤ 67108864) (at k : ℕ) where
   pub placed-list : (xs : List ℕ) (n : ℕ) → length xs ≡ n → ((i : ℕ) → getD xs i 0 < 256 ^ k) → Placed section at (filled (run k xs))
-      → listAt (alone section) k n (pointerTo n at) ≡ some xs
+      → listAt (systemOnly section) k n (pointerTo n at) ≡ some xs
   unfolding listAt
   placed-list [] n e below p = rw (← e)
   placed-list (x ∷ xs) n e below p =
       let ys : List ℕ = x ∷ xs in
-      let some-pointer : eqb (base + at) 0 ≡ false = ne-eqb (base + at) 0 (λ q. omega arith) in
-      let some-items : eqb (length ys) 0 ≡ false = ne-eqb (length ys) 0 (λ q. omega arith) in
-      rw (← e, some-items, some-pointer, placed-resolved section short at (run k ys) (length ys * k) (length-run k ys) (placed-part (run k ys) p)) (ap some (numbers-run k ys below))
+      rw (← e, not-zero (length ys) (omega arith), not-zero (base + at) (omega arith), placed-resolved section short at (run k ys) (length ys * k) (length-run k ys) (placed-part (run k ys) p)) (ap some (numbers-run k ys below))
