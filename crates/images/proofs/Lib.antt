@@ -4,3 +4,4 @@ pub mod LengthLaws
 pub mod GeometryLaws
 pub mod ModelLaws
 pub mod ImageLaws
+pub mod ReadWidths
