@@ -5,3 +5,4 @@ pub mod GeometryLaws
 pub mod ModelLaws
 pub mod ImageLaws
 pub mod ReadWidths
+pub mod CallWidths
