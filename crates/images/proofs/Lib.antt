@@ -6,3 +6,5 @@ pub mod ModelLaws
 pub mod ImageLaws
 pub mod ReadWidths
 pub mod CallWidths
+pub mod BufferLaws
+pub mod RunLaws
