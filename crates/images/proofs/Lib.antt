@@ -8,3 +8,4 @@ pub mod ReadWidths
 pub mod CallWidths
 pub mod BufferLaws
 pub mod RunLaws
+pub mod EveryList
