@@ -1,10 +1,9 @@
 -- Lists of hall calls: as a program makes them, and as the abstract state is given them (document 01, "Hall book").
 use mathlib.Core.Path.{_≡_}
-use mathlib.Core.List.{List, [], _∷_, _++_, map}
+use mathlib.Core.List.{List, [], _∷_, _++_}
 use Prim.{Unit}
 use Prim.Native.Nat.{ℕ, _-_, _^_, _<_, max}
 use lib.ListN.{length, drop, replicate}
-use Rattle.sections.specs.Address.{Sections}
 use Rattle.halls.specs.Calls.{Given, Call, addModel, addGeometry, removeGeometry, removeModel, setAttribute, replaceIndices, takeIn}
 use Rattle.halls.specs.Every.{Each}
 use Rattle.halls.specs.State.{State, stateBytes}

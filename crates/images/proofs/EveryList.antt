@@ -1,0 +1,94 @@
+-- Demand 3: the claim about every list of the seven hall calls.
+use mathlib.Core.Path.{_≡_, sym, ap, _∙_}
+use mathlib.Core.List.{List, []}
+use Prim.Native.Nat.{ℕ, _≤_}
+use borrow.Author.Tests.{le-leb}
+use lib.ListN.{length, take}
+use lib.Seq.{take-at}
+use Rattle.sections.specs.Address.{sections}
+use Rattle.sections.specs.Edit.{overwrite}
+use Rattle.halls.specs.Calls.{takeIn, proposed}
+use Rattle.halls.specs.Hall.{hallBytes}
+use Rattle.halls.specs.Outcome.{Outcome, written, answerOf, after}
+use Rattle.halls.specs.State.{State, hallOf, stateBytes, IsState}
+use Rattle.halls.specs.Step.{Step, becomes, stepIn, rewritten, stepAnswer, stepBytes, Stepped}
+use Rattle.halls.specs.declared.answer.Answer.{Answer}
+use Rattle.halls.specs.declared.answer.Answer.the-variants.{Accepted}
+use Rattle.halls.proofs.StateLaws.{state-of-hall, state-unique}
+use Rattle.images.specs.Claim.{CallList, bufferOf, nOf, bytesOf, imageOf, SameHall, Claim}
+use Rattle.images.specs.Image.{image, base}
+use Rattle.images.specs.Runs.{stateAfter}
+use Rattle.images.specs.Saving.{saved, Saved}
+use Rattle.images.proofs.ImageLaws.{image-taken, equal-images}
+use Rattle.images.proofs.RunLaws.{held-bytes, held-length, held-state, held-verdict, held-hall, step-in, held-start, run-agrees, Ended, run-ended}
+
+-- ---- the end of a list
+
+abbrev stateOfList : CallList → State
+stateOfList l = stateAfter (length (l .first)) [] (l .made)
+
+ended : (l : CallList) → Ended (l .first) (bufferOf l) (nOf l) (stateOfList l)
+ended l = run-ended (held-start (l .first)) (l .made) (l .ran)
+
+-- ---- saved
+
+saved-is : (l : CallList) (room : ℕ) → length (imageOf l) ≤ room → saved (bufferOf l) (nOf l) room ≡ written (imageOf l)
+unfolding saved
+saved-is l room fit = rw (held-verdict (ended l .held), held-hall (ended l .held), le-leb (length (imageOf l)) room fit)
+
+saves : (l : CallList) (d : List ℕ) (r : Answer) (t : List ℕ) → Saved (bufferOf l) (nOf l) d r t → length (imageOf l) ≤ length d
+    → (r ≡ Accepted (length (imageOf l))) × (t ≡ overwrite d 0 (imageOf l))
+saves l d r t w fit =
+    let is : saved (bufferOf l) (nOf l) (length d) ≡ written (imageOf l) = saved-is l (length d) fit in
+    (w .answer ∙ ap answerOf is, w .bytes ∙ ap (λ (o : Outcome). after o d) is)
+
+-- ---- taken in over the hall of another list
+
+step-becomes : (l k : CallList) → nOf l ≤ length (bufferOf k) → stepIn (takeIn (sections (imageOf l) []) base) (bufferOf k) (nOf k) ≡ becomes (stateOfList l)
+unfolding proposed stateBytes
+step-becomes l k fit =
+    let s : State = stateOfList l in
+    let h = ended l .held in
+    let j = ended k .held in
+    let room : length (hallBytes (hallOf s)) ≤ length (bufferOf k) = rw (h .shows .long) at fit in
+    step-in j _ ∙ rw (image-taken s (h .in-width) (h .sound), h .sound, ← held-length j, le-leb (length (hallBytes (hallOf s))) (length (bufferOf k)) room, state-of-hall s)
+
+returns : (l k : CallList) → nOf l ≤ length (bufferOf k) → (r : Answer) (t : List ℕ)
+    → Stepped (takeIn (sections (imageOf l) []) base) (bufferOf k) (nOf k) r t → (r ≡ Accepted (nOf l)) × (take (nOf l) t ≡ bytesOf l)
+unfolding rewritten
+returns l k fit r t w =
+    let s : State = stateOfList l in
+    let h = ended l .held in
+    let is : stepIn (takeIn (sections (imageOf l) []) base) (bufferOf k) (nOf k) ≡ becomes s = step-becomes l k fit in
+    let left : t ≡ rewritten (bufferOf k) (nOf k) (stateBytes s) = w .bytes ∙ ap (λ (x : Step). stepBytes (bufferOf k) (nOf k) x) is in (
+      w .answer ∙ ap stepAnswer is ∙ ap Accepted (sym (h .shows .long)),
+      rw left (take-at (stateBytes s) _ (nOf l) (sym (h .shows .long))) ∙ sym (held-bytes h),
+    )
+
+-- ---- two lists
+
+same-halls : (l k : CallList) → imageOf l ≡ imageOf k → SameHall l k
+same-halls l k e =
+    let h = ended l .held in
+    let j = ended k .held in
+    let same : stateOfList l ≡ stateOfList k = equal-images (stateOfList l) (stateOfList k) (h .in-width) (h .sound) (j .in-width) (j .sound) e in
+    record {
+      long = h .shows .long ∙ ap (λ (s : State). length (stateBytes s)) same ∙ sym (j .shows .long);
+      bytes = held-bytes h ∙ ap stateBytes same ∙ sym (held-bytes j);
+    }
+
+same-images : (l k : CallList) → SameHall l k → imageOf l ≡ imageOf k
+same-images l k w =
+    let there : IsState (bytesOf l) (stateOfList k) = rw (w .bytes) (held-state (ended k .held)) in
+    ap (λ (s : State). image (hallOf s)) (state-unique (bytesOf l) (stateOfList l) (stateOfList k) (held-state (ended l .held)) there)
+
+-- ---- the claim
+
+pub every-list : Claim
+every-list = record {
+  agrees = λ l. run-agrees (held-start (l .first)) (l .made) (l .ran);
+  saves = saves;
+  returns = returns;
+  equal-images = same-halls;
+  equal-halls = same-images;
+}

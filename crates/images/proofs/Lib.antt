@@ -1,0 +1,11 @@
+pub mod PlacedLaws
+pub mod BlockLaws
+pub mod LengthLaws
+pub mod GeometryLaws
+pub mod ModelLaws
+pub mod ImageLaws
+pub mod ReadWidths
+pub mod CallWidths
+pub mod BufferLaws
+pub mod RunLaws
+pub mod EveryList
