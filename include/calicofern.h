@@ -2,9 +2,9 @@
 
    Each promise below is proved for every input: the function reads and writes only what it was lent, and always returns.
 
-   A slice is two arguments, a pointer and the number of its bytes. The pointer must point to that many readable bytes, and for an
-   output writable ones; it is never null, not even with length 0. An output and `size` overlap no other argument. A slice has fewer
-   than 2^63 bytes.
+   A slice is two arguments, a pointer and the number of its elements, which are bytes, or for indices uint32_t. The pointer must point to that
+   many readable elements, and for an output or a hall writable ones; it is aligned for its type and never null, not even with length 0. An output,
+   a hall and `size` overlap no other argument. A slice has fewer than 2^63 bytes.
    Numbers in slices are little-endian. A float is passed as its 32 bits, a half as its 16, so that a NaN keeps sign and payload.
 
    A function with an output returns 0 where it accepts, else the number of the check that failed:
@@ -18,6 +18,7 @@
       8  there is no vertex with this index
       9  a component of nonzero size does not end inside the vertex data
      10  an output of the vertex functions is too short
+   or one of 11 to 24, which stand beside the functions that return them.
    It accepts: the result stands in the first bytes of the output, the bytes behind it are as they were, and *size is the length of the
    result. It refuses: no byte of the output is changed, and *size is the length that the output needs for checks 7 and 10, else 0.
    *size is written in either case, and not read. */
@@ -53,6 +54,58 @@ uint8_t calicofern_hall_list(const uint8_t *system, size_t system_length, const 
      18  each index is below the count of vertices
      19  the hall's image has at most 67,108,864 bytes */
 uint8_t calicofern_hall_check(const uint8_t *list, size_t list_length, size_t n);
+
+/* ---- Editing a hall
+
+   A hall is the first n bytes of the buffer `hall`, of `hall_length` bytes: a list that passes checks 11 to 19. n = 0 is the hall without models, whatever the
+   buffer holds. Models, the geometries of a model, and vertices are counted from 0.
+
+   Each function checks the hall, then its own arguments, then what the hall would become, and only then writes. It accepts: it returns 0, *size is the new
+   n, the first *size bytes are the new hall, bytes from there to a longer old n are zero, and those beyond both are as they were. It refuses: it
+   returns a number, no byte of the buffer is changed, and *size is the new n that the buffer is too short for with 24, else 0. *size is written in either
+   case, and not read. The numbers, in the order in which they are looked for:
+     11 to 19  n bytes of the buffer are no hall: as calicofern_hall_check says
+     21        there is no such model, geometry or vertex; in adding a geometry, there is no model
+     22        the geometry's declaration has no component of this semantic, or one without bytes
+     23        the value has not the shape of the component's type
+     11 to 19  what the hall would become is no hall: the lowest check that fails
+     24        the buffer is shorter than the new hall */
+
+/* Adds a model without geometries at the end. Returns 0, 11 to 19 or 24. */
+uint8_t calicofern_add_model(uint8_t *hall, size_t hall_length, size_t n, uint32_t binding, uint16_t mask, uint64_t *size);
+
+/* Adds a geometry at the end of the last model: its shader id, its declaration of five numbers, the stride and count of its vertices, their bytes, its
+   indices. Its index count is `indices_length`, its triangle count a third of that. 11: `content_length` is not count x stride. 14 to 18: the
+   geometry given is at fault. Returns 0, 11 to 19, 21 or 24. */
+uint8_t calicofern_add_geometry(uint8_t *hall, size_t hall_length, size_t n, uint16_t shader, uint32_t flags, uint16_t declared_stride,
+                                uint8_t unknown_6h, uint8_t declared_count, uint64_t types, uint16_t stride, uint32_t count,
+                                const uint8_t *content, size_t content_length, const uint32_t *indices, size_t indices_length,
+                                uint64_t *size);
+
+/* Removes a geometry; later ones of its model get the number before. Returns 0, 11 to 19 or 21. */
+uint8_t calicofern_remove_geometry(uint8_t *hall, size_t hall_length, size_t n, uint64_t model, uint64_t geometry, uint64_t *size);
+
+/* Removes a model with its geometries; later ones get the number before. Returns 0, 11 to 19 or 21. */
+uint8_t calicofern_remove_model(uint8_t *hall, size_t hall_length, size_t n, uint64_t model, uint64_t *size);
+
+/* Sets the component of a semantic in one vertex; no other byte changes. The value is x, y, z and w, as many as its shape says: 1 to 4, so many floats, each
+   as its bits; 5, four bytes, each a number up to 255. Any other shape, and a byte above 255, is a value of no type. Float wants one float, Half2 and
+   Float2 two, Float3 three, Half4, Float4 and Rgba8Snorm four, UByte4 and Colour bytes; halves and Rgba8Snorm are stored as the numbers below say.
+   Returns 0, 11 to 19, 21, 22 or 23. */
+uint8_t calicofern_set_attribute(uint8_t *hall, size_t hall_length, size_t n, uint64_t model, uint64_t geometry, uint64_t vertex,
+                                 uint64_t semantic, uint8_t shape, uint32_t x, uint32_t y, uint32_t z, uint32_t w, uint64_t *size);
+
+/* Replaces all indices of a geometry, its two index counts and its triangle count. Returns 0, 11 to 19, 21 or 24. */
+uint8_t calicofern_replace_indices(uint8_t *hall, size_t hall_length, size_t n, uint64_t model, uint64_t geometry, const uint32_t *indices,
+                                   size_t indices_length, uint64_t *size);
+
+/* The hall becomes what two sections hold behind the LOD header at address `va`, with layout 0, a declaration of three floats of position where none is
+   stored, and mappings made of the shader ids. The old hall must be sound too. 1 to 6 are looked for before the result is judged; 11 there: a
+   geometry lacks its vertices or its indices. Returns 0, 1 to 6, 11 to 19 or 24. */
+uint8_t calicofern_take_in(uint8_t *hall, size_t hall_length, size_t n, const uint8_t *system, size_t system_length, const uint8_t *graphics,
+                           size_t graphics_length, uint64_t va, uint64_t *size);
+
+/* ---- Models and lists */
 
 /* The triangles of a hall list: for each geometry its stored index count, or the indices that its kind 5 holds where that is 0, divided by 3; the
    sum, or 2^64 - 1 where the sum is above it. A record that is not whole ends the list. */

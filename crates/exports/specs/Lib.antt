@@ -3,3 +3,4 @@ pub mod Passed
 pub mod Buffers
 pub mod Unify
 pub mod Attributes
+pub mod Editing
