@@ -56,6 +56,18 @@ impl VertexAttributeValue {
         }
     }
 
+    /// Its shape and numbers, as the library takes them: 1 to 4 floats, each as its bits; 5 for four bytes; 0 for none.
+    pub(crate) fn passed(&self) -> (u8, [u32; 4]) {
+        match *self {
+            Self::Float(x) => (1, floats([x])),
+            Self::Half2(values) | Self::Float2(values) => (2, floats(values)),
+            Self::Float3(values) => (3, floats(values)),
+            Self::Half4(values) | Self::Float4(values) | Self::Rgba8Snorm(values) => (4, floats(values)),
+            Self::UByte4(bytes) | Self::Colour(bytes) => (5, bytes.map(u32::from)),
+            Self::Unsupported => (0, [0; 4]),
+        }
+    }
+
     /// As two floats: the first two, with 0 where there is none.
     pub fn as_vec2(&self) -> [f32; 2] {
         let [x, y, ..] = self.filled(0.0);
@@ -103,6 +115,15 @@ impl VertexAttributeValue {
             Self::Unsupported => [0.0, 0.0, 0.0, w],
         }
     }
+}
+
+/// The bits of up to four floats, with zeros behind them.
+fn floats<const N: usize>(values: [f32; N]) -> [u32; 4] {
+    let mut bits = [0; 4];
+    for (place, value) in bits.iter_mut().zip(values) {
+        *place = value.to_bits();
+    }
+    bits
 }
 
 /// The numbers, with spaces between them; `unsupported` where there are none.

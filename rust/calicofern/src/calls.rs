@@ -1,12 +1,12 @@
 //! The C functions of the proved library, each behind a safe function. All unsafe code of this crate is here.
 //!
-//! The library asks of a caller what include/calicofern.h says: a slice's pointer is not null and points to as many bytes as are said, readable or
-//! for an output writable; an output and `size` overlap no other argument; a slice has fewer than 2^63 bytes. It keeps no pointer, and it
-//! is proved to read and write nothing else and to return.
+//! The library asks of a caller what include/calicofern.h says: a slice's pointer is aligned, not null and points to as many bytes or indices as
+//! are said, readable or for an output or a hall writable; an output, a hall and `size` overlap no other argument; a slice has fewer than 2^63
+//! bytes. It keeps no pointer, and it is proved to read and write nothing else and to return.
 //!
-//! Every call below is sound for the same reasons. A Rust slice's pointer is never null and is good for its length, which is at most
-//! `isize::MAX`. The outputs are `&mut` borrows, so nothing else overlaps them, and `size` is a variable of the function. No borrow outlives
-//! its call. Functions of numbers alone take any number.
+//! Every call below is sound for the same reasons. A Rust slice's pointer is aligned, never null and good for its length, which is at most
+//! `isize::MAX` bytes. Outputs and halls are `&mut` borrows, so nothing else overlaps them, and `size` is a variable of the function. No borrow
+//! outlives its call. Functions of numbers alone take any number.
 
 /// What a call with an output answers: the number of the check that failed, or 0, and the bytes written or needed.
 #[derive(Debug, Clone, Copy, PartialEq, Eq)]
@@ -30,6 +30,63 @@ extern "C" {
         size: *mut u64,
     ) -> u8;
     fn calicofern_hall_check(list: *const u8, list_length: usize, n: usize) -> u8;
+    fn calicofern_add_model(hall: *mut u8, hall_length: usize, n: usize, binding: u32, mask: u16, size: *mut u64) -> u8;
+    fn calicofern_add_geometry(
+        hall: *mut u8,
+        hall_length: usize,
+        n: usize,
+        shader: u16,
+        flags: u32,
+        declared_stride: u16,
+        unknown_6h: u8,
+        declared_count: u8,
+        types: u64,
+        stride: u16,
+        count: u32,
+        content: *const u8,
+        content_length: usize,
+        indices: *const u32,
+        indices_length: usize,
+        size: *mut u64,
+    ) -> u8;
+    fn calicofern_remove_geometry(hall: *mut u8, hall_length: usize, n: usize, model: u64, geometry: u64, size: *mut u64) -> u8;
+    fn calicofern_remove_model(hall: *mut u8, hall_length: usize, n: usize, model: u64, size: *mut u64) -> u8;
+    fn calicofern_set_attribute(
+        hall: *mut u8,
+        hall_length: usize,
+        n: usize,
+        model: u64,
+        geometry: u64,
+        vertex: u64,
+        semantic: u64,
+        shape: u8,
+        x: u32,
+        y: u32,
+        z: u32,
+        w: u32,
+        size: *mut u64,
+    ) -> u8;
+    fn calicofern_replace_indices(
+        hall: *mut u8,
+        hall_length: usize,
+        n: usize,
+        model: u64,
+        geometry: u64,
+        indices: *const u32,
+        indices_length: usize,
+        size: *mut u64,
+    ) -> u8;
+    fn calicofern_take_in(
+        hall: *mut u8,
+        hall_length: usize,
+        n: usize,
+        system: *const u8,
+        system_length: usize,
+        graphics: *const u8,
+        graphics_length: usize,
+        va: u64,
+        size: *mut u64,
+    ) -> u8;
     fn calicofern_triangle_count(list: *const u8, list_length: usize) -> u64;
     fn calicofern_bone_index(skeleton_binding: u32) -> u8;
     fn calicofern_is_skinned(skeleton_binding: u32) -> bool;
@@ -98,6 +155,111 @@ pub fn hall_list(system: &[u8], graphics: &[u8], va: u64, list: &mut [u8]) -> To
 pub fn hall_check(list: &[u8]) -> u8 {
     // SAFETY: pointer and length of a borrowed slice, which is only read. n may be any number: the library compares it with the length.
     unsafe { calicofern_hall_check(list.as_ptr(), list.len(), list.len()) }
+}
+
+// ---- The calls that edit the hall in the first n bytes of a buffer. n may be any number: the library compares it with the buffer's length.
+
+pub fn add_model(hall: &mut [u8], n: usize, binding: u32, mask: u16) -> Told {
+    let mut size = UNWRITTEN;
+    // SAFETY: pointer and length of an exclusive borrow; `size` is a variable of this function.
+    let check = unsafe { calicofern_add_model(hall.as_mut_ptr(), hall.len(), n, binding, mask, &mut size) };
+    Told { check, size }
+}
+
+/// A geometry to be added.
+#[derive(Debug, Clone, Copy)]
+pub struct Given<'a> {
+    pub shader: u16,
+    pub flags: u32,
+    pub declared_stride: u16,
+    pub unknown_6h: u8,
+    pub declared_count: u8,
+    pub types: u64,
+    pub stride: u16,
+    pub count: u32,
+    pub content: &'a [u8],
+    pub indices: &'a [u32],
+}
+
+pub fn add_geometry(hall: &mut [u8], n: usize, given: Given<'_>) -> Told {
+    let mut size = UNWRITTEN;
+    // SAFETY: pointers and lengths of borrowed slices; `hall` is an exclusive borrow and `size` a variable of this function. The other numbers may be any: the
+    // library judges them.
+    let check = unsafe {
+        calicofern_add_geometry(
+            hall.as_mut_ptr(),
+            hall.len(),
+            n,
+            given.shader,
+            given.flags,
+            given.declared_stride,
+            given.unknown_6h,
+            given.declared_count,
+            given.types,
+            given.stride,
+            given.count,
+            given.content.as_ptr(),
+            given.content.len(),
+            given.indices.as_ptr(),
+            given.indices.len(),
+            &mut size,
+        )
+    };
+    Told { check, size }
+}
+
+pub fn remove_geometry(hall: &mut [u8], n: usize, model: u64, geometry: u64) -> Told {
+    let mut size = UNWRITTEN;
+    // SAFETY: as for adding a model.
+    let check = unsafe { calicofern_remove_geometry(hall.as_mut_ptr(), hall.len(), n, model, geometry, &mut size) };
+    Told { check, size }
+}
+
+pub fn remove_model(hall: &mut [u8], n: usize, model: u64) -> Told {
+    let mut size = UNWRITTEN;
+    // SAFETY: as for adding a model.
+    let check = unsafe { calicofern_remove_model(hall.as_mut_ptr(), hall.len(), n, model, &mut size) };
+    Told { check, size }
+}
+
+/// `place`: the numbers of model, geometry, vertex and semantic. `shape` and `value` as include/calicofern.h says.
+pub fn set_attribute(hall: &mut [u8], n: usize, place: [u64; 4], shape: u8, value: [u32; 4]) -> Told {
+    let mut size = UNWRITTEN;
+    let [model, geometry, vertex, semantic] = place;
+    let [x, y, z, w] = value;
+    // SAFETY: as for adding a model.
+    let check = unsafe {
+        calicofern_set_attribute(hall.as_mut_ptr(), hall.len(), n, model, geometry, vertex, semantic, shape, x, y, z, w, &mut size)
+    };
+    Told { check, size }
+}
+
+pub fn replace_indices(hall: &mut [u8], n: usize, model: u64, geometry: u64, indices: &[u32]) -> Told {
+    let mut size = UNWRITTEN;
+    // SAFETY: pointers and lengths of borrowed slices; `hall` is an exclusive borrow and `size` a variable of this function.
+    let check = unsafe {
+        calicofern_replace_indices(hall.as_mut_ptr(), hall.len(), n, model, geometry, indices.as_ptr(), indices.len(), &mut size)
+    };
+    Told { check, size }
+}
+
+pub fn take_in(hall: &mut [u8], n: usize, system: &[u8], graphics: &[u8], va: u64) -> Told {
+    let mut size = UNWRITTEN;
+    // SAFETY: pointers and lengths of borrowed slices; `hall` is an exclusive borrow and `size` a variable of this function.
+    let check = unsafe {
+        calicofern_take_in(
+            hall.as_mut_ptr(),
+            hall.len(),
+            n,
+            system.as_ptr(),
+            system.len(),
+            graphics.as_ptr(),
+            graphics.len(),
+            va,
+            &mut size,
+        )
+    };
+    Told { check, size }
 }
 
 pub fn triangle_count(list: &[u8]) -> u64 {

@@ -1,10 +1,10 @@
 //! Whether a list is a hall.
 
 use crate::calls::{self, Told};
-use crate::Refusal;
+use crate::{Disagreement, Models, Place, Refusal};
 
 /// Whether these bytes are a hall: the list of its models and geometries, in which every count agrees. Otherwise the lowest of checks 11 to 19
-/// that fails anywhere in it.
+/// that fails anywhere in it, with its place where two numbers of a model or a geometry disagree.
 ///
 /// ```
 /// use calicofern::{hall_check, Sections};
@@ -20,11 +20,30 @@ use crate::Refusal;
 /// let refusal = hall_check(&list).unwrap_err();
 /// assert_eq!(refusal.check(), 17);
 /// assert!(refusal.to_string().starts_with("check 17: index counts disagree"));
+/// assert!(refusal.to_string().ends_with(": model 0, geometry 0"));
 ///
 /// // A list that ends inside a record is none.
 /// assert_eq!(hall_check(&list[..20]).unwrap_err().check(), 11);
 /// ```
 pub fn hall_check(list: &[u8]) -> Result<(), Refusal> {
     let check = calls::hall_check(list);
-    Refusal::told(Told { check, size: 0 }, list.len()).map(|_| ())
+    Refusal::told(Told { check, size: 0 }, list.len()).map(|_| ()).map_err(|refusal| refusal.at(place_of(check, list)))
+}
+
+/// The first model or geometry with two numbers that disagree by this check. What is not ordered has no numbers, and checks 13 and 19 are about all.
+fn place_of(check: u8, list: &[u8]) -> Option<Place> {
+    if matches!(check, 11 | 13 | 19) {
+        return None;
+    }
+    let fails = |pairs: Vec<Disagreement>| pairs.iter().any(|pair| pair.check == Some(check));
+    for (model, number) in Models::of(list).zip(0..) {
+        let place = Place { model: number, geometry: None, vertex: None };
+        if fails(model.disagreements()) {
+            return Some(place);
+        }
+        if let Some((_, geometry)) = model.geometries().zip(0..).find(|(geometry, _)| fails(geometry.disagreements())) {
+            return Some(Place { geometry: Some(geometry), ..place });
+        }
+    }
+    None
 }

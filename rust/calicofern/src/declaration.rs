@@ -45,6 +45,30 @@ impl VertexDeclaration {
         VertexDeclaration { flags: 1, stride, unknown_6h: 0, count: 1, types: 6 }
     }
 
+    /// A declaration of these components. In a vertex they lie in the order of their semantics' numbers, without gaps, and the stride is the bytes of all.
+    /// Of two with one semantic the last counts; semantics above 15 and types above 10 are left out.
+    ///
+    /// ```
+    /// use calicofern::{VertexComponentType, VertexDeclaration, VertexSemantic};
+    /// let parts = [(VertexSemantic::Normal, VertexComponentType::Rgba8Snorm), (VertexSemantic::Position, VertexComponentType::Float3)];
+    /// let declaration = VertexDeclaration::of(&parts);
+    /// assert_eq!(declaration.to_string(), "Position Float3, Normal RGBA8SNorm");
+    /// assert_eq!((declaration.stride, declaration.count), (16, 2));
+    /// ```
+    pub fn of(components: &[(VertexSemantic, VertexComponentType)]) -> Self {
+        let mut made = VertexDeclaration { flags: 0, stride: 0, unknown_6h: 0, count: 0, types: 0 };
+        for (semantic, component_type) in components {
+            let (place, nibble) = (u32::from(semantic.index()), component_type.nibble());
+            if place < 16 && nibble < 11 {
+                made.flags |= 1 << place;
+                made.types = made.types & !(15 << (4 * place)) | u64::from(nibble) << (4 * place);
+            }
+        }
+        made.count = made.flags.count_ones() as u8;
+        made.stride = made.size_in_bytes();
+        made
+    }
+
     /// The declaration that 16 stored bytes say.
     pub fn from_bytes(bytes: [u8; 16]) -> Self {
         VertexDeclaration {

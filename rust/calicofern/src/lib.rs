@@ -28,6 +28,7 @@
 //! |---|---|
 //! | list the models and geometries of a drawable | [`Sections::hall_list`], [`HallList::models`] |
 //! | check that a list is a hall, so that it may be edited and saved | [`hall_check`] |
+//! | build a hall, or edit one | [`Hall`] |
 //! | see where its counts disagree | [`DrawableGeometry::disagreements`], [`DrawableModel::disagreements`] |
 //! | read vertices as they are stored, or in one form | [`Vertices::read_vertex_attributes`], [`Vertices::to_unified_vertices`] |
 //! | find a vertex buffer by its address | [`Sections::vertex_buffer_at`] |
@@ -45,6 +46,7 @@ pub mod convert;
 mod declaration;
 mod disagreement;
 mod geometry;
+mod hall;
 mod lend;
 mod list;
 mod model;
@@ -60,10 +62,11 @@ pub use check::hall_check;
 pub use declaration::{VertexComponent, VertexDeclaration};
 pub use disagreement::Disagreement;
 pub use geometry::{DrawableGeometry, Geometries, IndexBuffer, Indices};
+pub use hall::{Hall, NewGeometry};
 pub use lend::ALLOCATION_LIMIT;
 pub use list::HallList;
 pub use model::{DrawableModel, Models};
-pub use refusal::Refusal;
+pub use refusal::{Place, Refusal};
 pub use sections::Sections;
 pub use types::{VertexComponentType, VertexSemantic};
 pub use unified::UnifiedVertex;

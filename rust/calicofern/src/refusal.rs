@@ -3,7 +3,28 @@
 use crate::calls::Told;
 use std::fmt;
 
-/// A refused call: the number of the check that failed, and the bytes that its output would have needed. No byte of the output was changed.
+/// Where in a hall a check failed. Models, the geometries of a model, and vertices are counted from 0.
+#[derive(Debug, Clone, Copy, PartialEq, Eq)]
+pub struct Place {
+    /// The model's number.
+    pub model: u64,
+    /// The number of the geometry in its model.
+    pub geometry: Option<u64>,
+    /// The number of the vertex in its geometry.
+    pub vertex: Option<u64>,
+}
+
+/// `model 1, geometry 2, vertex 3`.
+impl fmt::Display for Place {
+    fn fmt(&self, out: &mut fmt::Formatter<'_>) -> fmt::Result {
+        write!(out, "model {}", self.model)?;
+        self.geometry.map_or(Ok(()), |geometry| write!(out, ", geometry {geometry}"))?;
+        self.vertex.map_or(Ok(()), |vertex| write!(out, ", vertex {vertex}"))
+    }
+}
+
+/// A refused call: the number of the check that failed, the bytes that its output would have needed, and where it failed, if that is known. No byte
+/// of the output was changed.
 ///
 /// It is shown as one line in plain words:
 ///
@@ -25,27 +46,39 @@ pub struct Refusal {
     lent: u64,
     /// Whether `lent` is a limit on what would have been allocated.
     limit: bool,
+    place: Option<Place>,
+    /// What the check asks for in this call, where that can be said more closely.
+    text: Option<&'static str>,
 }
 
 impl Refusal {
-    /// The number of the check that failed, 1 to 19.
+    /// The number of the check that failed, 1 to 24.
     pub fn check(&self) -> u8 {
         self.check
     }
 
-    /// The bytes that the output needs, for checks 7 and 10.
-    pub fn needed(&self) -> Option<u64> {
-        matches!(self.check, 7 | 10).then_some(self.needed)
+    /// Where it failed, if that is known: what a call named, or for checks 12 to 18 of a list the first place whose numbers disagree.
+    pub fn place(&self) -> Option<Place> {
+        self.place
     }
 
-    /// The bytes that the output had, or was allowed to have, for checks 7 and 10.
+    /// The bytes that the output needs, for checks 7, 10, 20 and 24.
+    pub fn needed(&self) -> Option<u64> {
+        matches!(self.check, 7 | 10 | 20 | 24).then_some(self.needed)
+    }
+
+    /// The bytes that the output had, or was allowed to have, for checks 7, 10, 20 and 24.
     pub fn lent(&self) -> Option<u64> {
         self.needed().map(|_| self.lent)
     }
 
-    /// What the check asks for, in words, without its number and the bytes.
+    /// What the check asks for, in words, without its number, the bytes and the place.
     pub fn text(&self) -> &'static str {
-        match self.check {
+        self.text.unwrap_or(Refusal::text_of(self.check))
+    }
+
+    fn text_of(check: u8) -> &'static str {
+        match check {
             1 => "a section is too long: the system and the graphics section may have 67108864 bytes each",
             2 => "the list of model pointers is not inside its section: the address and the count in the LOD header must lead to it",
             3 => "a model is not inside its section: each model pointer that is not 0 must lead to 48 bytes",
@@ -65,6 +98,11 @@ impl Refusal {
             17 => "index counts disagree: a geometry's count, its index buffer's count, the indices there are and 3 for each triangle must be equal, and at least 3",
             18 => "an index names no vertex: each must be below the number of vertices",
             19 => "the hall is too large to be saved: its image may have 67108864 bytes",
+            20 => "the buffer for the image is too short",
+            21 => "there is no such model, geometry or vertex: each is counted from 0, and a geometry can only be added where there is a model",
+            22 => "the vertices have no such attribute: the geometry's declaration must have this semantic, with a type that has bytes",
+            23 => "the value has not the shape of the attribute's type: Float wants one float, Half2 and Float2 two, Float3 three, Half4, Float4 and RGBA8SNorm four, UByte4 and Colour four bytes",
+            24 => "the buffer for the hall is too short",
             _ => "a check that this version does not know",
         }
     }
@@ -74,19 +112,39 @@ impl Refusal {
         match told {
             // what was written lies in the output, so its length is a usize
             Told { check: 0, size } => Ok(size as usize),
-            Told { check, size } => Err(Refusal { check, needed: size, lent: lent as u64, limit: false }),
+            Told { check, size } => Err(Refusal { check, needed: size, lent: lent as u64, limit: false, place: None, text: None }),
         }
+    }
+
+    /// Check 21 at a place of a hall.
+    pub(crate) fn absent(place: Place) -> Refusal {
+        Refusal { check: 21, needed: 0, lent: 0, limit: false, place: Some(place), text: None }
     }
 
     /// The same refusal where no more than so many bytes may be allocated.
     pub(crate) fn with_limit(self, limit: usize) -> Refusal {
         Refusal { lent: limit as u64, limit: true, ..self }
     }
+
+    /// The same refusal at a place.
+    pub(crate) fn at(self, place: Option<Place>) -> Refusal {
+        Refusal { place, ..self }
+    }
+
+    /// The same refusal, with other words if it is by this check.
+    pub(crate) fn saying(self, check: u8, text: &'static str) -> Refusal {
+        if self.check == check {
+            Refusal { text: Some(text), ..self }
+        } else {
+            self
+        }
+    }
 }
 
 impl fmt::Display for Refusal {
     fn fmt(&self, out: &mut fmt::Formatter<'_>) -> fmt::Result {
         write!(out, "check {}: {}", self.check, self.text())?;
+        self.place.map_or(Ok(()), |place| write!(out, ": {place}"))?;
         match (self.needed(), self.lent()) {
             (Some(needed), Some(limit)) if self.limit => write!(out, ": {needed} bytes are needed, and the limit is {limit}"),
             (Some(needed), Some(lent)) => write!(out, ": {needed} bytes are needed, {lent} were lent"),
@@ -112,10 +170,10 @@ mod tests {
 
     #[test]
     fn each_check_has_its_own_line() {
-        let lines: Vec<String> = (1..=19).map(|check| refusal(check, 0, 0).to_string()).collect();
+        let lines: Vec<String> = (1..=24).map(|check| format!("check {check}: {}", refusal(check, 0, 0).text())).collect();
         for (line, check) in lines.iter().zip(1..) {
             let text = line.strip_prefix(&format!("check {check}: ")).unwrap_or_else(|| panic!("{line}"));
-            assert!(!text.contains('\n') && text != refusal(20, 0, 0).text(), "{line}");
+            assert!(!text.contains('\n') && text != refusal(25, 0, 0).text(), "{line}");
             assert_eq!(lines.iter().filter(|other| other.ends_with(text)).count(), 1, "{line}");
         }
     }
@@ -129,5 +187,21 @@ mod tests {
         let line = "check 7: the buffer for the list is too short: 127 bytes are needed, and the limit is 99";
         assert_eq!(refusal(7, 127, 0).with_limit(99).to_string(), line);
         assert_eq!((refusal(6, 0, 9).needed(), refusal(6, 0, 9).lent()), (None, None));
+        let line = "check 24: the buffer for the hall is too short: 139 bytes are needed, 130 were lent";
+        assert_eq!(refusal(24, 139, 130).to_string(), line);
+        assert_eq!(refusal(20, 576, 0).needed(), Some(576));
+    }
+
+    #[test]
+    fn a_place_and_closer_words_are_told() {
+        let place = Place { model: 1, geometry: Some(2), vertex: Some(3) };
+        assert_eq!(place.to_string(), "model 1, geometry 2, vertex 3");
+        assert_eq!(Place { geometry: None, vertex: None, ..place }.to_string(), "model 1");
+        let refused = refusal(18, 0, 0).at(Some(place));
+        assert_eq!(refused.place(), Some(place));
+        let line = "check 18: an index names no vertex: each must be below the number of vertices: model 1, geometry 2, vertex 3";
+        assert_eq!(refused.to_string(), line);
+        assert_eq!(refused.saying(11, "other words"), refused);
+        assert_eq!(refused.saying(18, "other words").at(None).to_string(), "check 18: other words");
     }
 }

@@ -52,6 +52,14 @@ impl VertexSemantic {
         SEMANTICS.get(usize::from(index)).map_or(Self::Unknown(index), |(semantic, _)| *semantic)
     }
 
+    /// Its number.
+    pub fn index(self) -> u8 {
+        match self {
+            Self::Unknown(index) => index,
+            known => SEMANTICS.iter().zip(0..).find(|((semantic, _), _)| *semantic == known).map_or(u8::MAX, |(_, index)| index),
+        }
+    }
+
     /// Its name; `Unknown` for every number above 15.
     pub fn as_str(&self) -> &'static str {
         SEMANTICS.iter().find(|(semantic, _)| semantic == self).map_or("Unknown", |(_, name)| name)
@@ -115,6 +123,24 @@ impl VertexComponentType {
         }
     }
 
+    /// Its number.
+    pub fn nibble(self) -> u8 {
+        match self {
+            Self::Nothing => 0,
+            Self::Half2 => 1,
+            Self::Float => 2,
+            Self::Half4 => 3,
+            Self::FloatUnknown => 4,
+            Self::Float2 => 5,
+            Self::Float3 => 6,
+            Self::Float4 => 7,
+            Self::UByte4 => 8,
+            Self::Colour => 9,
+            Self::Rgba8Snorm => 10,
+            Self::Unknown(other) => other,
+        }
+    }
+
     /// The bytes that it takes.
     pub fn size_in_bytes(&self) -> u8 {
         match self {
@@ -172,6 +198,10 @@ mod tests {
     #[test]
     fn numbers_and_names() {
         assert_eq!((0..18).map(VertexSemantic::from_index).filter(|semantic| semantic.as_str() == "Unknown").count(), 2);
+        for number in 0..20 {
+            assert_eq!(VertexSemantic::from_index(number).index(), number);
+            assert_eq!(VertexComponentType::from_nibble(number).nibble(), number);
+        }
         assert_eq!(VertexSemantic::from_index(14).to_string(), "Tangent");
         assert_eq!(VertexSemantic::from_index(16).to_string(), "Unknown16");
         assert_eq!(VertexComponentType::from_nibble(10).to_string(), "RGBA8SNorm");

@@ -1,0 +1,299 @@
+//! A hall that can be edited.
+
+use crate::calls::{self, Given, Told};
+use crate::{
+    hall_check, DrawableGeometry, DrawableModel, Models, Place, Refusal, Sections, UnifiedVertex, VertexAttribute, VertexAttributeValue,
+    VertexDeclaration, VertexSemantic,
+};
+use std::fmt;
+
+/// A hall: models and their geometries, in which every count agrees (checks 11 to 19).
+///
+/// It owns the list's bytes. Every edit is judged before a byte is written, so a `Hall` is sound at every moment, and a refused call leaves it as it was.
+/// Its buffer grows as edits need it. Two halls are equal when their lists are.
+///
+/// ```
+/// use calicofern::{Hall, NewGeometry, VertexAttributeValue, VertexDeclaration, VertexSemantic};
+///
+/// let floor: Vec<u8> = [[0.0f32, 0.0, 0.0], [20.0, 0.0, 0.0], [0.0, 32.0, 0.0]].as_flattened().iter().flat_map(|f| f.to_le_bytes()).collect();
+/// let mut hall = Hall::new();
+/// hall.add_model(0, 0xFF)?;
+/// hall.add_geometry(NewGeometry {
+///     shader_id: 5,
+///     declaration: VertexDeclaration::position_only(12),
+///     vertex_stride: 12,
+///     vertex_count: 3,
+///     vertices: &floor,
+///     indices: &[0, 1, 2],
+/// })?;
+/// hall.set_attribute(0, 0, 1, VertexSemantic::Position, VertexAttributeValue::Float3([22.0, 0.0, 0.0]))?;
+/// assert_eq!(hall.unified_vertices(0, 0)?[1].position, [22.0, 0.0, 0.0]);
+/// assert_eq!(hall.list().len(), 127);
+///
+/// let refusal = hall.replace_indices(0, 0, &[0, 1, 3]).unwrap_err();
+/// assert_eq!(refusal.check(), 18);
+/// assert_eq!(hall.geometry(0, 0).unwrap().triangles().next(), Some([0, 1, 2]));
+/// # Ok::<(), calicofern::Refusal>(())
+/// ```
+#[derive(Clone, Default)]
+pub struct Hall {
+    /// Lent to the library as a whole. The hall is its first `n` bytes.
+    buffer: Vec<u8>,
+    n: usize,
+}
+
+/// A geometry to be added: what it is made of. Its counts of indices and triangles follow from its indices.
+#[derive(Debug, Clone, Copy, PartialEq, Eq)]
+pub struct NewGeometry<'a> {
+    /// Its shader id.
+    pub shader_id: u16,
+    /// What each vertex has. Its stride must be the vertices'.
+    pub declaration: VertexDeclaration,
+    /// The bytes from one vertex to the next.
+    pub vertex_stride: u16,
+    /// The number of vertices, 1 to 65,535.
+    pub vertex_count: u32,
+    /// The bytes of the vertices: count times stride.
+    pub vertices: &'a [u8],
+    /// Three for each triangle, each below the number of vertices.
+    pub indices: &'a [u32],
+}
+
+impl Hall {
+    /// A hall without models.
+    pub fn new() -> Self {
+        Hall::default()
+    }
+
+    /// The hall behind the LOD header at an address: [`Hall::take_in`] of a new one.
+    ///
+    /// ```
+    /// use calicofern::{Hall, Sections};
+    /// # let system = std::fs::read(concat!(env!("CARGO_MANIFEST_DIR"), "/../../samples/shoebox.system")).unwrap();
+    /// let hall = Hall::from_sections(&Sections::new(&system, &[]), Sections::SYSTEM)?;
+    /// assert_eq!(hall.models().count(), 2);
+    /// # Ok::<(), calicofern::Refusal>(())
+    /// ```
+    pub fn from_sections(sections: &Sections<'_>, at: u64) -> Result<Self, Refusal> {
+        let mut hall = Hall::new();
+        hall.take_in(sections, at)?;
+        Ok(hall)
+    }
+
+    /// A hall of a list that is at hand, such as a file written earlier. Refused by checks 11 to 19.
+    ///
+    /// ```
+    /// use calicofern::Hall;
+    /// assert_eq!(Hall::from_list(Vec::new())?, Hall::new());
+    /// assert_eq!(Hall::from_list(vec![6, 0, 0]).unwrap_err().check(), 11);
+    /// # Ok::<(), calicofern::Refusal>(())
+    /// ```
+    pub fn from_list(list: Vec<u8>) -> Result<Self, Refusal> {
+        hall_check(&list)?;
+        Ok(Hall { n: list.len(), buffer: list })
+    }
+
+    /// The hall as a list: records of body length u32, kind u16, body.
+    pub fn list(&self) -> &[u8] {
+        self.buffer.get(..self.n).unwrap_or_default()
+    }
+
+    /// The same, without a copy.
+    pub fn into_list(mut self) -> Vec<u8> {
+        self.buffer.truncate(self.n);
+        self.buffer
+    }
+
+    /// Its models, in order.
+    pub fn models(&self) -> Models<'_> {
+        Models::of(self.list())
+    }
+
+    /// The model with a number, counted from 0.
+    pub fn model(&self, model: u64) -> Option<DrawableModel<'_>> {
+        self.models().nth(usize::try_from(model).ok()?)
+    }
+
+    /// The geometry with a number of a model, both counted from 0. It has a declaration, vertices and indices: every geometry of a hall does.
+    pub fn geometry(&self, model: u64, geometry: u64) -> Option<DrawableGeometry<'_>> {
+        self.model(model)?.geometries().nth(usize::try_from(geometry).ok()?)
+    }
+
+    /// Every geometry of every model, with the numbers of both.
+    ///
+    /// ```
+    /// use calicofern::{Hall, Sections};
+    /// # let system = std::fs::read(concat!(env!("CARGO_MANIFEST_DIR"), "/../../samples/shoebox.system")).unwrap();
+    /// let hall = Hall::from_sections(&Sections::new(&system, &[]), Sections::SYSTEM)?;
+    /// let numbers: Vec<(u64, u64)> = hall.geometries().map(|(model, geometry, _)| (model, geometry)).collect();
+    /// assert_eq!(numbers, [(0, 0), (0, 1), (0, 2), (1, 0), (1, 1), (1, 2), (1, 3)]);
+    /// # Ok::<(), calicofern::Refusal>(())
+    /// ```
+    pub fn geometries(&self) -> impl Iterator<Item = (u64, u64, DrawableGeometry<'_>)> {
+        self.models()
+            .zip(0..)
+            .flat_map(|(model, number)| model.geometries().zip(0..).map(move |(geometry, place)| (number, place, geometry)))
+    }
+
+    /// The triangles of all geometries.
+    pub fn triangle_count(&self) -> u64 {
+        calls::triangle_count(self.list())
+    }
+
+    /// What a vertex has, in the order of the declaration. Refused by check 21 where there is no such model, geometry or vertex.
+    pub fn attributes(&self, model: u64, geometry: u64, vertex: u64) -> Result<Vec<VertexAttribute>, Refusal> {
+        let place = Place { model, geometry: Some(geometry), vertex: Some(vertex) };
+        let found = self.geometry(model, geometry).and_then(|geometry| geometry.vertex_buffer);
+        match found {
+            Some(vertices) if vertex < u64::from(vertices.vertex_count) => vertices.read_vertex_attributes(vertex),
+            _ => Err(Refusal::absent(place)),
+        }
+    }
+
+    /// All vertices of a geometry in one form. Refused by check 21 where there is no such model or geometry.
+    pub fn unified_vertices(&self, model: u64, geometry: u64) -> Result<Vec<UnifiedVertex>, Refusal> {
+        let place = Place { model, geometry: Some(geometry), vertex: None };
+        let found = self.geometry(model, geometry).and_then(|geometry| geometry.vertex_buffer);
+        found.ok_or(Refusal::absent(place))?.to_unified_vertices()
+    }
+
+    /// Adds a model without geometries at the end.
+    ///
+    /// Refused by check 13 where there are 256 models, by 19 where the hall would be too large to be saved.
+    pub fn add_model(&mut self, skeleton_binding: u32, render_mask_flags: u16) -> Result<(), Refusal> {
+        self.edit(|hall, n| calls::add_model(hall, n, skeleton_binding, render_mask_flags))
+    }
+
+    /// Adds a geometry at the end of the last model.
+    ///
+    /// Refused by check 21 where there is no model; by 11 where the vertices' bytes are not count times stride; by 13 where there are 16,384 geometries; by
+    /// 14 to 18 where the geometry's own numbers are at fault; by 19 where the hall would be too large to be saved.
+    pub fn add_geometry(&mut self, geometry: NewGeometry<'_>) -> Result<(), Refusal> {
+        let given = Given {
+            shader: geometry.shader_id,
+            flags: geometry.declaration.flags,
+            declared_stride: geometry.declaration.stride,
+            unknown_6h: geometry.declaration.unknown_6h,
+            declared_count: geometry.declaration.count,
+            types: geometry.declaration.types,
+            stride: geometry.vertex_stride,
+            count: geometry.vertex_count,
+            content: geometry.vertices,
+            indices: geometry.indices,
+        };
+        let done = self.edit(|hall, n| calls::add_geometry(hall, n, given));
+        done.map_err(|refusal| {
+            refusal
+                .saying(11, "the vertices' bytes are not their count times their stride")
+                .saying(21, "there is no model to add a geometry to: add a model first")
+        })
+    }
+
+    /// Removes a geometry; later ones of its model get the number before. Refused by check 21 where there is no such model or geometry.
+    pub fn remove_geometry(&mut self, model: u64, geometry: u64) -> Result<(), Refusal> {
+        let done = self.edit(|hall, n| calls::remove_geometry(hall, n, model, geometry));
+        done.map_err(|refusal| refusal.at(Some(Place { model, geometry: Some(geometry), vertex: None })))
+    }
+
+    /// Removes a model with its geometries; later ones get the number before. Refused by check 21 where there is no such model.
+    ///
+    /// ```
+    /// use calicofern::Hall;
+    /// let mut hall = Hall::new();
+    /// hall.add_model(0, 1)?;
+    /// hall.add_model(0, 2)?;
+    /// hall.remove_model(0)?;
+    /// assert_eq!(hall.models().next().unwrap().render_mask_flags, 2);
+    /// assert_eq!(hall.remove_model(1).unwrap_err().check(), 21);
+    /// # Ok::<(), calicofern::Refusal>(())
+    /// ```
+    pub fn remove_model(&mut self, model: u64) -> Result<(), Refusal> {
+        let done = self.edit(|hall, n| calls::remove_model(hall, n, model));
+        done.map_err(|refusal| refusal.at(Some(Place { model, geometry: None, vertex: None })))
+    }
+
+    /// Sets an attribute of one vertex; no other byte of the hall changes. The value is stored as the attribute's type stores it: halves are the nearest, of
+    /// two the even one, and signed bytes are clamped and cut.
+    ///
+    /// Refused by check 21 where there is no such vertex, by 22 where the vertices have no such attribute, by 23 where the value has another number of floats
+    /// than its type, or bytes for floats. Whether the value's name is the type's is not looked at: two floats may be given as `Float2` to a `Half2`.
+    pub fn set_attribute(
+        &mut self,
+        model: u64,
+        geometry: u64,
+        vertex: u64,
+        semantic: VertexSemantic,
+        value: VertexAttributeValue,
+    ) -> Result<(), Refusal> {
+        let (shape, numbers) = value.passed();
+        let place = [model, geometry, vertex, u64::from(semantic.index())];
+        let done = self.edit(|hall, n| calls::set_attribute(hall, n, place, shape, numbers));
+        done.map_err(|refusal| refusal.at(Some(Place { model, geometry: Some(geometry), vertex: Some(vertex) })))
+    }
+
+    /// Replaces all indices of a geometry, and with them its counts of indices and triangles.
+    ///
+    /// Refused by check 21 where there is no such model or geometry; by 17 where the indices are not three for each triangle, or none; by 18 where one is not
+    /// below the number of vertices; by 19 where the hall would be too large to be saved.
+    pub fn replace_indices(&mut self, model: u64, geometry: u64, indices: &[u32]) -> Result<(), Refusal> {
+        let done = self.edit(|hall, n| calls::replace_indices(hall, n, model, geometry, indices));
+        done.map_err(|refusal| refusal.at(Some(Place { model, geometry: Some(geometry), vertex: None })))
+    }
+
+    /// The hall becomes what two sections hold behind the LOD header at an address. What it held before is gone.
+    ///
+    /// Vertices without a declaration get a position of three floats, every layout becomes Legacy, and mappings are made of the shader ids. A header that
+    /// is not inside its section has no models.
+    ///
+    /// Refused by checks 1 to 6 as [`Sections::hall_list`], and by 11 to 19 where what is there is no hall; 11 where a geometry lacks vertices or indices.
+    pub fn take_in(&mut self, sections: &Sections<'_>, at: u64) -> Result<(), Refusal> {
+        let done = self.edit(|hall, n| calls::take_in(hall, n, sections.system, sections.graphics, at));
+        done.map_err(|refusal| refusal.saying(11, "a geometry lacks its vertices or its indices: in a hall each has both"))
+    }
+
+    /// One call of the library. Where the buffer is too short, it is made longer and the call is tried again; so check 24 is seen only where that much memory
+    /// cannot be had.
+    fn edit(&mut self, call: impl Fn(&mut [u8], usize) -> Told) -> Result<(), Refusal> {
+        let mut done = self.call(&call);
+        if let Err(refusal) = done {
+            if self.grow(&refusal) {
+                done = self.call(&call);
+            }
+        }
+        self.n = done?;
+        Ok(())
+    }
+
+    fn call(&mut self, call: impl Fn(&mut [u8], usize) -> Told) -> Result<usize, Refusal> {
+        let lent = self.buffer.len();
+        Refusal::told(call(&mut self.buffer, self.n), lent)
+    }
+
+    /// Makes the buffer at least as long as the refused call needs; whether it did.
+    fn grow(&mut self, refusal: &Refusal) -> bool {
+        let Some(needed) = refusal.needed().and_then(|needed| usize::try_from(needed).ok()) else {
+            return false;
+        };
+        if self.buffer.try_reserve(needed.saturating_sub(self.buffer.len())).is_err() {
+            return false;
+        }
+        // all that was reserved, so that many small edits seldom ask for more
+        self.buffer.resize(self.buffer.capacity(), 0);
+        true
+    }
+}
+
+impl PartialEq for Hall {
+    fn eq(&self, other: &Self) -> bool {
+        self.list() == other.list()
+    }
+}
+
+impl Eq for Hall {}
+
+impl fmt::Debug for Hall {
+    fn fmt(&self, out: &mut fmt::Formatter<'_>) -> fmt::Result {
+        let geometries = self.geometries().count();
+        write!(out, "Hall {{ models: {}, geometries: {geometries}, bytes: {} }}", self.models().count(), self.n)
+    }
+}
