@@ -112,6 +112,10 @@ fn wrong_usage_is_one_line_and_status_2() {
         &["halves", "one"],
         &["halves", "--to-floats", "samples/shoebox.system"],
         &["demo", "more"],
+        &["new"],
+        &["take-in", "samples/shoebox"],
+        &["check", "samples/nothing"],
+        &["edit", "samples/shoebox.system"],
     ] {
         let (status, said) = failed(words);
         assert_eq!((status, said.starts_with("hall: ")), (2, true), "{words:?}: {said}");
@@ -182,10 +186,68 @@ fn the_demo_says_what_it_wrote() {
     }
 }
 
+/// A triangle, then an edit of it.
+const SCRIPT: &str = "\
+# a floor of one triangle
+add-model 0 0xff
+add-geometry 5 Position:Float3 vertices 0 0 0  20 0 0  0 32 0 indices 0 1 2
+
+set-attribute 0 0 1 Position 22 0 0
+";
+
+#[test]
+fn a_hall_is_made_and_edited() {
+    let folder = folder("edit");
+    let (file, script) = (path(&folder, "made.hall"), path(&folder, "script"));
+    assert_eq!(printed(&["new", &file]), format!("wrote {file}: 0 models, 0 geometries, 0 triangles, 0 bytes\n"));
+    std::fs::write(&script, SCRIPT).unwrap();
+    let text = printed(&["edit", &file, &script]);
+    assert_eq!(text, format!("3 calls; wrote {file}: 1 model, 1 geometry, 1 triangle, 127 bytes\n"));
+    assert_eq!(printed(&["check", &file]), format!("{file} is a hall: 1 model, 1 geometry, 1 triangle, 127 bytes\n"));
+    let hall = calicofern::Hall::from_list(std::fs::read(&file).unwrap()).unwrap();
+    assert_eq!(hall.unified_vertices(0, 0).unwrap()[1].position, [22.0, 0.0, 0.0]);
+
+    // into another file
+    let other = path(&folder, "other.hall");
+    std::fs::write(&script, "remove-model 0\n").unwrap();
+    assert!(printed(&["edit", &file, &script, "--out", &other]).starts_with("1 call; wrote "));
+    assert_eq!((std::fs::read(&file).unwrap().len(), std::fs::read(&other).unwrap().len()), (127, 0));
+}
+
+#[test]
+fn a_script_that_fails_changes_nothing_and_names_its_line() {
+    let folder = folder("script");
+    let (file, script) = (path(&folder, "kept.hall"), path(&folder, "script"));
+    printed(&["new", &file]);
+    std::fs::write(&script, format!("{SCRIPT}replace-indices 0 0 0 1 3\n")).unwrap();
+    let (status, said) = failed(&["edit", &file, &script]);
+    assert_eq!(status, 1);
+    let words = "line 6: check 18: an index names no vertex: each must be below the number of vertices: model 0, geometry 0";
+    assert_eq!(said, format!("hall: {script}, {words}"));
+    std::fs::write(&script, "add-model 0\n").unwrap();
+    assert_eq!(failed(&["edit", &file, &script]), (2, format!("hall: {script}, line 1: the mask is missing")));
+    assert_eq!(std::fs::metadata(&file).unwrap().len(), 0);
+}
+
+#[test]
+fn drawables_are_taken_in() {
+    let folder = folder("take-in");
+    let (file, script) = (path(&folder, "layouts.hall"), path(&folder, "script"));
+    let text = printed(&["take-in", "samples/layouts", "--out", &file]);
+    assert!(text.starts_with(&format!("wrote {file}: 3 models, 4 geometries, ")), "{text}");
+    assert!(printed(&["check", &file]).starts_with(&format!("{file} is a hall: 3 models, 4 geometries, ")));
+    std::fs::write(&script, "take-in 0x50000000 samples/shoebox.system\n").unwrap();
+    assert!(printed(&["edit", &file, &script]).contains(": 2 models, 7 geometries, 382 triangles, 17,397 bytes\n"));
+    let (status, said) = failed(&["take-in", "samples/damaged", "--out", &file]);
+    assert_eq!((status, said.starts_with("hall: check 11: a geometry lacks its vertices")), (1, true), "{said}");
+    let (status, said) = failed(&["check", "samples/shoebox.system"]);
+    assert_eq!((status, said.starts_with("hall: check 11: ")), (1, true), "{said}");
+}
+
 #[test]
 fn help_and_version() {
     let help = printed(&["--help"]);
-    for command in ["list", "vertices", "halves", "demo"] {
+    for command in ["list", "vertices", "halves", "demo", "new", "take-in", "check", "edit"] {
         assert!(help.contains(&format!("\n  hall {command} ")), "{help}");
     }
     assert_eq!(printed(&["list", "--help"]), help);

@@ -45,7 +45,7 @@ impl Drawable {
 }
 
 /// A section's bytes. Of a file that is longer than a section may be, one byte too many is read, for check 1 to refuse.
-fn section(path: &str) -> Result<Vec<u8>, Failure> {
+pub fn section(path: &str) -> Result<Vec<u8>, Failure> {
     read(path).map_err(|error| Failure::File(path.to_string(), error))
 }
 

@@ -11,6 +11,8 @@ pub enum Failure {
     Usage(String),
     /// A file that cannot be read or written.
     File(String, io::Error),
+    /// A line of a script, and why it failed.
+    Line(String, Box<Failure>),
 }
 
 impl Failure {
@@ -19,6 +21,7 @@ impl Failure {
         match self {
             Failure::Refused(_) => 1,
             Failure::Usage(_) | Failure::File(..) => 2,
+            Failure::Line(_, why) => why.status(),
         }
     }
 }
@@ -29,6 +32,7 @@ impl fmt::Display for Failure {
             Failure::Refused(refusal) => write!(out, "{refusal}"),
             Failure::Usage(text) => out.write_str(text),
             Failure::File(path, error) => write!(out, "{path}: {error}"),
+            Failure::Line(place, why) => write!(out, "{place}: {why}"),
         }
     }
 }

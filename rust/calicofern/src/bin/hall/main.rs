@@ -1,13 +1,15 @@
-//! Shows what RAGE drawables hold: `hall --help` says how.
+//! Shows what RAGE drawables hold, and edits halls: `hall --help` says how.
 
 mod arguments;
 mod demo;
 mod drawable;
 mod failure;
+mod halls;
 mod halves;
 mod list;
 mod obj;
 mod progress;
+mod script;
 mod table;
 mod vertices;
 
@@ -17,7 +19,7 @@ use std::io::{self, Write};
 use std::process::ExitCode;
 
 const HELP: &str = "\
-hall: shows what RAGE drawables hold
+hall: shows what RAGE drawables hold, and edits halls
 
   hall list DRAWABLE [--bytes FILE]
       the models and geometries of a drawable, with every pair of counts that disagrees.
@@ -33,6 +35,15 @@ hall: shows what RAGE drawables hold
       --to-floats IN OUT, --to-halves IN OUT    convert whole files of little-endian numbers
   hall demo [--out FOLDER]
       a sample hall, from reading to unified vertices; it says where it wrote them
+  hall new HALL
+      a hall without models
+  hall take-in DRAWABLE --out HALL
+      the hall that a drawable holds
+  hall check HALL
+      whether a file is a hall, in which every count agrees; else the check that fails
+  hall edit HALL SCRIPT [--out FILE]
+      do the calls of a script, one a line; HALL is written anew, or FILE with --out. Where a line fails,
+      the others have no effect either
   hall --help, hall --version
 
 DRAWABLE is NAME, for the section files NAME.system and NAME.graphics (which may be missing), or
@@ -40,6 +51,23 @@ DRAWABLE is NAME, for the section files NAME.system and NAME.graphics (which may
 In both forms:
   --at ADDRESS      the address of the LOD header (0x50000000 where not given)
   --limit BYTES     the most bytes that the list may have (1073741824 where not given)
+
+HALL is a file of one hall's list. The lines of a SCRIPT, in which # begins a comment:
+  add-model BINDING MASK                      a model without geometries, at the end
+  add-geometry SHADER SEMANTIC:TYPE.. vertices NUMBER.. indices INDEX..
+                                              a geometry of the last model, three indices a triangle; a vertex
+                                              has its components' numbers, in the order of the semantics below
+  remove-geometry MODEL GEOMETRY
+  remove-model MODEL
+  set-attribute MODEL GEOMETRY VERTEX SEMANTIC NUMBER..
+  replace-indices MODEL GEOMETRY INDEX..
+  take-in ADDRESS SYSTEM-FILE [GRAPHICS-FILE] the hall becomes what these sections hold
+SEMANTIC: Position, BlendWeights, BlendIndices, Normal, Colour0, Colour1, TexCoord0 to TexCoord7, Tangent,
+  Binormal. TYPE: Half2, Float, Half4, Float2, Float3, Float4, UByte4, Colour, RGBA8SNorm.
+MODEL, GEOMETRY and VERTEX are counted from 0. An example:
+  add-model 0 0xff
+  add-geometry 5 Position:Float3 vertices 0 0 0  20 0 0  0 32 0 indices 0 1 2
+  set-attribute 0 0 1 Position 22 0 0
 
 Exit status: 0 done; 1 refused, with the number of the check that failed; 2 wrong usage, or a file that
 cannot be read or written.
@@ -70,6 +98,10 @@ fn run(words: Vec<String>) -> Result<String, Failure> {
         "vertices" => vertices::run(arguments),
         "halves" => halves::run(arguments),
         "demo" => demo::run(arguments),
+        "new" => halls::new(arguments),
+        "take-in" => halls::take_in(arguments),
+        "check" => halls::check(arguments),
+        "edit" => script::run(arguments),
         "--help" | "-h" | "help" => Ok(HELP.to_string()),
         "--version" | "-V" => Ok(format!("hall {}\n", env!("CARGO_PKG_VERSION"))),
         other => Err(Failure::Usage(format!("there is no command '{other}'; 'hall --help' lists them"))),
