@@ -9,3 +9,4 @@ pub mod CallWidths
 pub mod BufferLaws
 pub mod RunLaws
 pub mod EveryList
+pub mod Vectors
