@@ -1,0 +1,5 @@
+pub mod PartLaws
+pub mod BlockLaws
+pub mod NarrowLaws
+pub mod WalkLaws
+pub mod FrontLaws
