@@ -14,6 +14,10 @@ use Rattle.halls.specs.declared.judge.GeometryHead.{GeometryHead}
 use Rattle.halls.proofs.JudgingLaws.{front-head}
 use Rattle.images.specs.Fronts.{geometryLength, Shaped}
 use Rattle.images.specs.declared.fronts.GeometryShape.{GeometryShape}
+use Rattle.images.specs.declared.fronts.Measured.{Measured}
+
+abbrev measuredAs : ℕ → ℕ → Measured
+measuredAs n size = record { «length» = n; size = size }
 
 -- ---- a geometry
 
@@ -35,3 +39,8 @@ module _ (s : List ℕ) (h : geometryLength s ≤ length s) where
   pub geometry-size : geometrySize (frontGeometry s) ≡ 0x190 + padded (contentAt s) + padded (2 * heldAt s)
   unfolding geometrySize
   geometry-size = rw (content-length, held-length) (omega arith)
+
+  module _ (r : GeometryShape) (q : Shaped s r) where
+    pub geometry-measured : measuredAs (65 + r .content + 4 * r .held) (0x190 + padded (r .content) + padded (2 * r .held)) ≡ measuredAs (geometryLength s) (geometrySize (frontGeometry s))
+    unfolding geometryLength
+    geometry-measured = rw (geometry-size, q .content-is, q .held-is)

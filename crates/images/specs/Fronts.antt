@@ -1,9 +1,11 @@
 -- A hall's list as save reads it: geometries and models from a place on, each passed by its own lengths. Private contracts speak of this; `FrontLaws` ties it to the hall.
 use mathlib.Core.Path.{_≡_}
-use mathlib.Core.List.{List, [], _∷_}
+use mathlib.Core.List.{List, [], _∷_, _++_}
 use Prim.Native.Nat.{ℕ, zero, suc, _+_, _*_, _≤_, _^_}
 use lib.ListN.{length, drop}
 use Rattle.sections.specs.Edit.{part}
+use Rattle.sections.specs.Le.{field}
+use Rattle.halls.specs.Blocks.{ModelBlock, GeometryBlock, IndexBlock}
 use Rattle.halls.specs.Checks.{geometryCount}
 use Rattle.halls.specs.Every.{sumOf}
 use Rattle.halls.specs.Hall.{FullGeometry, FullModel, Hall}
@@ -14,6 +16,7 @@ use Rattle.halls.specs.Records.{records}
 use Rattle.halls.specs.Outcome.{answerOf, after}
 use Rattle.halls.specs.declared.answer.Answer.{Answer}
 use Rattle.halls.specs.declared.check.Verdict.the-variants.{Sound}
+use Rattle.images.specs.Image.{VertexBlock, base, filled, geometryBlockBytes, pointerTo, vertexBlockBytes}
 use Rattle.images.specs.Saving.{savedBy}
 use Rattle.images.specs.declared.fronts.GeometryShape.{GeometryShape}
 use Rattle.images.specs.declared.fronts.Measured.{Measured}
@@ -68,6 +71,36 @@ modelsLength k s = itemsLength modelLength k s
 
 abbrev pub modelsSize : ℕ → List ℕ → ℕ
 modelsSize k s = sumOf modelSize (modelsFrom k s)
+
+-- ---- blocks, by the list's own fields
+
+-- of the geometry at the front, which lies at `at`, with its index block at `index`
+abbrev pub geometryNumbers : ℕ → ℕ → List ℕ → GeometryBlock
+geometryNumbers at index s = record {
+  vertexBlock = base + (at + 0xA0);
+  indexBlock = base + index;
+  indices = field 4 s 8;
+  triangles = field 4 s 12;
+  vertices = field 2 s 16;
+  stride = field 2 s 18;
+  inline = 0;
+}
+
+abbrev pub vertexNumbers : ℕ → List ℕ → VertexBlock
+vertexNumbers at s = record { stride = field 2 s 49; content = base + (at + 0x130); count = field 4 s 51; info = base + (at + 0x120) }
+
+-- its parts before the vertex bytes
+unfoldable pub headParts : ℕ → ℕ → List ℕ → List ℕ
+headParts at index s = filled (geometryBlockBytes (geometryNumbers at index s)) ++ (vertexBlockBytes (vertexNumbers at s) ++ part s 26 16)
+
+-- its index block, at `at`
+abbrev pub indexNumbers : ℕ → ℕ → List ℕ → IndexBlock
+indexNumbers at content s = record { count = field 4 s (61 + content); size = 0; legacy = base + (at + 0x60); sized = 0 }
+
+-- of the model at the front, with so many geometries and a mapping at `mapping`
+abbrev pub modelNumbers : ℕ → ℕ → ℕ → List ℕ → ModelBlock
+modelNumbers at entries mapping s =
+    record { geometries = pointerTo entries (at + 0x30); count = entries; mapping = pointerTo entries mapping; binding = field 4 s 6; mask = field 2 s 10 }
 
 -- ---- room
 

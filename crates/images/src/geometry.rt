@@ -3,12 +3,11 @@ ghost use mathlib.Core.Path.{_≡_};
 ghost use Prim.Native.Nat.{_+_, _*_, _-_, _≤_};
 ghost use lib.ListN.{length};
 ghost use Rattle.sections.specs.Edit.{overwrite};
-ghost use Rattle.sections.specs.Le.{field};
 ghost use Rattle.vertices.specs.Runs.{run};
 ghost use Rattle.halls.specs.ImageSize as size;
 ghost use Rattle.halls.specs.Judging.{frontGeometry};
-ghost use Rattle.images.specs.Fronts.{geometryLength, geometriesFrom, geometriesLength, geometriesSize, imageLimit, Room, GeometriesRoom};
-ghost use Rattle.images.specs.Image.{addresses, base, filled, geometryBlockBytes, geometryImage, indexBlockBytes, laid, vertexBlockBytes};
+ghost use Rattle.images.specs.Fronts.{geometryLength, geometriesFrom, geometriesLength, geometriesSize, geometryNumbers, vertexNumbers, indexNumbers, headParts, imageLimit, Room, GeometriesRoom};
+ghost use Rattle.images.specs.Image.{addresses, filled, geometryBlockBytes, geometryImage, indexBlockBytes, laid, vertexBlockBytes};
 use crate::blocks::put_geometry_block;
 use crate::blocks::put_index_block;
 use crate::blocks::put_vertex_block;
@@ -77,18 +76,26 @@ fn put_geometry(out: &mut [u8], at: usize, front: &[u8])
     let behind = 55 + shape.content;
     let indices = 65 + shape.content;
     let index_block = at + 0x130 + padded(shape.content);
-    put_geometry_numbers(out, at, front, index_block);
-    put_vertex_numbers(out, at, front);
-    copy_into(out, at + 0x120, &front[26..42]);
+    put_head(out, at, front, index_block);
     put_copy(out, at + 0x130, &front[55..behind]);
     put_index_numbers(out, index_block, front, shape.content);
     put_indices(out, index_block + 0x60, &front[indices..], shape.held);
 }
 
+// Its block, vertex block and declaration.
+fn put_head(out: &mut [u8], at: usize, front: &[u8], index_block: usize)
+    requires { ⌜ (at + 0x130 ≤ length (now out)) × (at ≤ imageLimit - 0x130) × («index_block» ≤ imageLimit) × (42 ≤ length (now front)) ⌝ }
+    ensures { λ _. ⌜ now (out .exit) ≡ overwrite (now (out .entry)) at (headParts at «index_block» (now (front .entry))) ⌝ }
+{
+    put_geometry_numbers(out, at, front, index_block);
+    put_vertex_numbers(out, at, front);
+    copy_into(out, at + 0x120, &front[26..42]);
+}
+
 // Its block, with zeros behind it.
 fn put_geometry_numbers(out: &mut [u8], at: usize, front: &[u8], index_block: usize)
     requires { ⌜ (at + 0xA0 ≤ length (now out)) × (at ≤ imageLimit - 0xA0) × («index_block» ≤ imageLimit) ⌝ }
-    ensures { λ _. ⌜ now (out .exit) ≡ overwrite (now (out .entry)) at (filled (geometryBlockBytes (record { vertexBlock = base + (at + 0xA0); indexBlock = base + «index_block»; indices = field 4 (now (front .entry)) 8; triangles = field 4 (now (front .entry)) 12; vertices = field 2 (now (front .entry)) 16; stride = field 2 (now (front .entry)) 18; inline = 0 }))) ⌝ }
+    ensures { λ _. ⌜ now (out .exit) ≡ overwrite (now (out .entry)) at (filled (geometryBlockBytes (geometryNumbers at «index_block» (now (front .entry))))) ⌝ }
 {
     put_geometry_block(
         out,
@@ -105,7 +112,7 @@ fn put_geometry_numbers(out: &mut [u8], at: usize, front: &[u8], index_block: us
 // The vertex block of the geometry at `at`.
 fn put_vertex_numbers(out: &mut [u8], at: usize, front: &[u8])
     requires { ⌜ (at + 0x120 ≤ length (now out)) × (at ≤ imageLimit - 0x130) ⌝ }
-    ensures { λ _. ⌜ now (out .exit) ≡ overwrite (now (out .entry)) (at + 0xA0) (vertexBlockBytes (record { stride = field 2 (now (front .entry)) 49; content = base + (at + 0x130); count = field 4 (now (front .entry)) 51; info = base + (at + 0x120) })) ⌝ }
+    ensures { λ _. ⌜ now (out .exit) ≡ overwrite (now (out .entry)) (at + 0xA0) (vertexBlockBytes (vertexNumbers at (now (front .entry)))) ⌝ }
 {
     put_vertex_block(
         out,
@@ -120,7 +127,7 @@ fn put_vertex_numbers(out: &mut [u8], at: usize, front: &[u8])
 // The index block; the indices lie behind it.
 fn put_index_numbers(out: &mut [u8], at: usize, front: &[u8], content: usize)
     requires { ⌜ (at + 0x60 ≤ length (now out)) × (at ≤ imageLimit - 0x60) × (61 + content ≤ length (now front)) ⌝ }
-    ensures { λ _. ⌜ now (out .exit) ≡ overwrite (now (out .entry)) at (indexBlockBytes (record { count = field 4 (now (front .entry)) (61 + content); size = 0; legacy = base + (at + 0x60); sized = 0 })) ⌝ }
+    ensures { λ _. ⌜ now (out .exit) ≡ overwrite (now (out .entry)) at (indexBlockBytes (indexNumbers at content (now (front .entry)))) ⌝ }
 {
     put_index_block(
         out,

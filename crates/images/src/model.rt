@@ -3,12 +3,11 @@ ghost use mathlib.Core.Path.{_≡_};
 ghost use Prim.Native.Nat.{_+_, _*_, _≤_};
 ghost use lib.ListN.{length};
 ghost use Rattle.sections.specs.Edit.{overwrite};
-ghost use Rattle.sections.specs.Le.{field};
 ghost use Rattle.vertices.specs.Runs.{run};
 ghost use Rattle.halls.specs.ImageSize as size;
 ghost use Rattle.halls.specs.Judging.{entriesAt};
-ghost use Rattle.images.specs.Fronts.{frontModel, modelLength, modelsFrom, modelsLength, modelsSize, imageLimit, Room, ModelsRoom};
-ghost use Rattle.images.specs.Image.{addresses, filled, modelBlockBytes, modelImage, laid, pointerTo};
+ghost use Rattle.images.specs.Fronts.{frontModel, modelLength, modelNumbers, modelsFrom, modelsLength, modelsSize, imageLimit, Room, ModelsRoom};
+ghost use Rattle.images.specs.Image.{addresses, filled, modelBlockBytes, modelImage, laid};
 use crate::blocks::put_model_block;
 use crate::fronts::entries_of;
 use crate::fronts::measure_model;
@@ -91,7 +90,7 @@ fn put_model(out: &mut [u8], at: usize, front: &[u8])
 // Its block, with `entries` geometries and a mapping at `mapping`.
 fn put_model_numbers(out: &mut [u8], at: usize, front: &[u8], entries: usize, mapping: usize)
     requires { ⌜ (at + 0x30 ≤ length (now out)) × (at + 0x30 ≤ imageLimit) × (mapping ≤ imageLimit) × (entries ≤ 16384) ⌝ }
-    ensures { λ _. ⌜ now (out .exit) ≡ overwrite (now (out .entry)) at (modelBlockBytes (record { geometries = pointerTo entries (at + 0x30); count = entries; mapping = pointerTo entries mapping; binding = field 4 (now (front .entry)) 6; mask = field 2 (now (front .entry)) 10 })) ⌝ }
+    ensures { λ _. ⌜ now (out .exit) ≡ overwrite (now (out .entry)) at (modelBlockBytes (modelNumbers at entries mapping (now (front .entry)))) ⌝ }
 {
     put_model_block(
         out,
