@@ -44,6 +44,9 @@ module _ {A : Type 0} {front : List ℕ → A} {len : List ℕ → ℕ} {size : 
     pub address-low : target ≤ 67108864
     address-low = omega (arith, walk-size (w .walking) more, w .low)
 
+    pub address-small : size (front (take (length s - place) (drop place s))) ≤ imageLimit
+    address-small = rw (slice-rest s place) (omega (arith, walk-size (w .walking) more, w .low))
+
     pub address-room : next + 8 ≤ length b
     address-room =
         let e = ap length (next-address (len (drop place s)) refl) ∙ length-append (bytes 8 (base + target)) _ in
@@ -91,6 +94,9 @@ module _ {A : Type 0} (front : List ℕ → A) (len : List ℕ → ℕ) (size : 
           ≡ image next (front (drop place s)) ++ laid size image (next + size (front (drop place s))) (itemsFrom front len (left - 1) (drop (place + l) s))
       unfolding laid
       next-item l e = ap (laid size image next) (walk-left (w .walking) more l e)
+
+      pub item-small : size (front (take (length s - place) (drop place s))) ≤ imageLimit
+      item-small = rw (slice-rest s place) (omega (arith, walk-size (w .walking) more, w .low))
 
       pub item-room : Room next (size (front (take (length s - place) (drop place s)))) b
       item-room =

@@ -5,3 +5,6 @@ pub mod WalkLaws
 pub mod FrontLaws
 pub mod SizeLaws
 pub mod LayingLaws
+pub mod GeometryLaws
+pub mod ModelLaws
+pub mod HallLaws

@@ -40,6 +40,12 @@ pub index-block-length : (b : IndexBlock) → length (indexBlockBytes b) ≡ 0x6
 unfolding indexBlockBytes overwrite bytes
 index-block-length b = refl
 
+pub block-filled-length : (b : GeometryBlock) → length (filled (geometryBlockBytes b)) ≡ 0xA0
+block-filled-length b = filled-length (geometryBlockBytes b) ∙ ap padded (geometry-block-length b)
+
+pub head-length : (b : GeometryBlock) (v : VertexBlock) → length (filled (geometryBlockBytes b) ++ vertexBlockBytes v) ≡ 0x120
+head-length b v = length-append (filled (geometryBlockBytes b)) (vertexBlockBytes v) ∙ rw (block-filled-length, vertex-block-length)
+
 -- ---- runs
 
 pub run-filled-length : (k : ℕ) (xs : List ℕ) → length (filled (run k xs)) ≡ padded (length xs * k)

@@ -38,6 +38,18 @@ unfolding itemsLength
 length-none len zero s h = refl
 length-none len (suc k) s h = absurd (omega arith)
 
+-- ---- as the code measures an item, in what is left of a list
+
+pub record MeasuredAt {A : Type 0} (front : List ℕ → A) (len : List ℕ → ℕ) (size : A → ℕ) (s : List ℕ) (m : Measured) : Type 0 where
+  pub length-is : m .«length» ≡ len s
+  pub size-is : m .size ≡ size (front s)
+
+measured-at : {A : Type 0} (front : List ℕ → A) (len : List ℕ → ℕ) (size : A → ℕ) (s : List ℕ) (place : ℕ) {m : Measured}
+    → m ≡ record { «length» = len (take (length s - place) (drop place s)); size = size (front (take (length s - place) (drop place s))) } → MeasuredAt front len size (drop place s) m
+measured-at front len size s place {m} e =
+    let e′ : m ≡ record { «length» = len (drop place s); size = size (front (drop place s)) } = rw (slice-rest s place) at e in
+    record { length-is = ap (λ (x : Measured). x .«length») e′; size-is = ap (λ (x : Measured). x .size) e′ }
+
 -- ---- the walk
 
 -- `left` of k items are left, from `place` on; those passed have led from `first` to `next`
@@ -55,10 +67,10 @@ module _ {A : Type 0} {front : List ℕ → A} {len : List ℕ → ℕ} {size : 
   pub walk-place : place ≤ length s
   walk-place = omega (arith, w .within, w .lengths)
 
-  module _ (more : 0 < left) where
-    here : List ℕ
-    here = drop place s
+  pub walk-measured : {m : Measured} → m ≡ record { «length» = len (take (length s - place) (drop place s)); size = size (front (take (length s - place) (drop place s))) } → MeasuredAt front len size (drop place s) m
+  walk-measured e = measured-at front len size s place e
 
+  module _ (more : 0 < left) where
     length-here : itemsLength len left (drop place s) ≡ len (drop place s) + itemsLength len (left - 1) (drop (len (drop place s)) (drop place s))
     length-here = length-step len left (drop place s) more
 
@@ -66,8 +78,11 @@ module _ {A : Type 0} {front : List ℕ → A} {len : List ℕ → ℕ} {size : 
     pub walk-fits : place + len (drop place s) ≤ length s
     walk-fits = omega (arith, w .within, w .lengths, length-here)
 
-    pub walk-whole : len (drop place s) ≤ length (drop place s)
+    walk-whole : len (drop place s) ≤ length (drop place s)
     walk-whole = rw (length-drop place s) (omega (arith, walk-fits))
+
+    pub walk-rest : len (take (length s - place) (drop place s)) ≤ length (take (length s - place) (drop place s))
+    walk-rest = rw (slice-rest s place) walk-whole
 
     size-here : sumOf size (itemsFrom front len left (drop place s)) ≡ size (front (drop place s)) + sumOf size (itemsFrom front len (left - 1) (drop (len (drop place s)) (drop place s)))
     unfolding sumOf
@@ -101,19 +116,6 @@ module _ {A : Type 0} {front : List ℕ → A} {len : List ℕ → ℕ} {size : 
         let e : sumOf size (itemsFrom front len left (drop place s)) ≡ 0 = ap (sumOf size) (items-none front len left (drop place s) none) in
         omega (arith, w .sizes)
 
--- ---- as the code measures an item
-
-pub record MeasuredAt {A : Type 0} (front : List ℕ → A) (len : List ℕ → ℕ) (size : A → ℕ) (s : List ℕ) (m : Measured) : Type 0 where
-  pub length-is : m .«length» ≡ len s
-  pub size-is : m .size ≡ size (front s)
-
-pub measured-at : {A : Type 0} (front : List ℕ → A) (len : List ℕ → ℕ) (size : A → ℕ) (s : List ℕ) (place : ℕ) {m : Measured}
-    → m ≡ record { «length» = len (take (length s - place) (drop place s)); size = size (front (take (length s - place) (drop place s))) } → MeasuredAt front len size (drop place s) m
-measured-at front len size s place {m} e =
-    let e′ : m ≡ record { «length» = len (drop place s); size = size (front (drop place s)) } = rw (slice-rest s place) at e in
-    record { length-is = ap (λ (x : Measured). x .«length») e′; size-is = ap (λ (x : Measured). x .size) e′ }
-
--- the same list
-pub rest-whole : (len : List ℕ → ℕ) (s : List ℕ) (place : ℕ) → len (drop place s) ≤ length (drop place s)
-    → len (take (length s - place) (drop place s)) ≤ length (take (length s - place) (drop place s))
-rest-whole len s place h = rw (slice-rest s place) h
+pub walk-sum : {A : Type 0} {front : List ℕ → A} {len : List ℕ → ℕ} {size : A → ℕ} {s : List ℕ} {k left place next : ℕ} → Walking front len size s k 0 left place next → left ≤ 0
+    → next ≡ sumOf size (itemsFrom front len k s)
+walk-sum w none = omega (arith, walk-total w none)

@@ -25,7 +25,7 @@ use sections::u32_le;
 
 // The addresses of k geometries, the first of which lies at `first`, as a part of the image.
 pub fn put_geometry_pointers(out: &mut [u8], at: usize, list: &[u8], k: usize, first: usize)
-    requires { ⌜ (geometriesLength k (now list) ≤ length (now list)) × (first + geometriesSize k (now list) ≤ imageLimit) × (at + size.padded (8 * k) ≤ length (now out)) ⌝ }
+    requires { ⌜ (geometriesLength k (now list) ≤ length (now list)) × (first + geometriesSize k (now list) ≤ imageLimit) × (at + size.padded (8 * k) ≤ length (now out)) × (k ≤ 16384) ⌝ }
     ensures { λ _. ⌜ now (out .exit) ≡ overwrite (now (out .entry)) at (filled (run 8 (addresses size.geometrySize first (geometriesFrom k (now (list .entry)))))) ⌝ }
 {
     put_geometry_addresses(out, at, list, k, first);

@@ -24,7 +24,7 @@ use sections::u32_le;
 
 // The addresses of k models, the first of which lies at `first`, as a part of the image.
 pub fn put_model_pointers(out: &mut [u8], at: usize, list: &[u8], k: usize, first: usize)
-    requires { ⌜ (modelsLength k (now list) ≤ length (now list)) × (first + modelsSize k (now list) ≤ imageLimit) × (at + size.padded (8 * k) ≤ length (now out)) ⌝ }
+    requires { ⌜ (modelsLength k (now list) ≤ length (now list)) × (first + modelsSize k (now list) ≤ imageLimit) × (at + size.padded (8 * k) ≤ length (now out)) × (k ≤ 16384) ⌝ }
     ensures { λ _. ⌜ now (out .exit) ≡ overwrite (now (out .entry)) at (filled (run 8 (addresses size.modelSize first (modelsFrom k (now (list .entry)))))) ⌝ }
 {
     put_model_addresses(out, at, list, k, first);
