@@ -45,14 +45,14 @@ counting-start s h =
     record { sound = h; few = omega arith; walking = rw e (walk-start frontModel modelLength modelSize s (modelCount s) 0 (omega (arith, h .lengths))) }
 
 -- some are left before the end, and none at it
-left-before : {s : List ℕ} {k left place next : ℕ} → Walking frontModel modelLength modelSize s k 0 left place next → place < itemsLength modelLength k s → 0 < left
-left-before {s} {k} {zero} {place} w h = absurd (omega (arith, w .lengths, length-none modelLength 0 (drop place s) (omega arith)))
-left-before {s} {k} {suc left} w h = omega arith
+left-before : (s : List ℕ) (k left place next : ℕ) → Walking frontModel modelLength modelSize s k 0 left place next → place < itemsLength modelLength k s → 0 < left
+left-before s k zero place next w h = absurd (omega (arith, w .lengths, length-none modelLength 0 (drop place s) (omega arith)))
+left-before s k (suc left) place next w h = omega arith
 
-left-behind : {s : List ℕ} {k left place next : ℕ} → Walking frontModel modelLength modelSize s k 0 left place next → itemsLength modelLength k s ≤ place → left ≤ 0
+left-behind : (s : List ℕ) (k left place next : ℕ) → Walking frontModel modelLength modelSize s k 0 left place next → itemsLength modelLength k s ≤ place → left ≤ 0
 unfolding modelLength
-left-behind {s} {k} {zero} w h = omega arith
-left-behind {s} {k} {suc left} {place} w h = absurd (omega (arith, w .lengths, length-step modelLength (suc left) (drop place s) (omega arith)))
+left-behind s k zero place next w h = omega arith
+left-behind s k (suc left) place next w h = absurd (omega (arith, w .lengths, length-step modelLength (suc left) (drop place s) (omega arith)))
 
 module _ {s : List ℕ} {models place size : ℕ} (w : Counting s models place size) where
   all-size : modelsSize (modelCount s) s ≡ sumOf modelSize (hallOfList s)
@@ -66,7 +66,7 @@ module _ {s : List ℕ} {models place size : ℕ} (w : Counting s models place s
   counting-few = omega (arith, w .few, w .sound .few-models)
 
   pub counting-more : place < length s → 0 < modelCount s - models
-  counting-more h = left-before (w .walking) (omega (arith, w .sound .lengths))
+  counting-more h = left-before s (modelCount s) (modelCount s - models) place size (w .walking) (omega (arith, w .sound .lengths))
 
   module _ (more : 0 < modelCount s - models) where
     pub counting-small : modelSize (frontModel (take (length s - place) (drop place s))) ≤ imageLimit
@@ -87,7 +87,7 @@ module _ {s : List ℕ} {models place size : ℕ} (w : Counting s models place s
 
   module _ (ended : length s ≤ place) where
     none : modelCount s - models ≤ 0
-    none = left-behind (w .walking) (omega (arith, w .sound .lengths))
+    none = left-behind s (modelCount s) (modelCount s - models) place size (w .walking) (omega (arith, w .sound .lengths))
 
     pub counting-models : models ≡ modelCount s
     counting-models = omega (arith, none, w .few)
