@@ -8,3 +8,5 @@ pub mod LayingLaws
 pub mod GeometryLaws
 pub mod ModelLaws
 pub mod HallLaws
+pub mod ListLaws
+pub mod SavingLaws

@@ -1,65 +1,51 @@
+-- Header, pointers and models are written one behind the other.
+use native.Mathlib.Omega.{arith}
 use borrow.Author.Needs.{needs}
+use Rattle.images.proofs.SavingLaws.{models-within, few-models, few-geometries, image-low, image-fits, image-written}
 use Rattle.images.proofs.saving.put_image.Statement.{statement}
 use Rattle.images.proofs.saving.put_image.Tie as tie
-use Rattle.images.proofs.saving.put_image.Reads as reads
-use Rattle.images.proofs.saving.put_image.Lts as lts
-use Rattle.images.proofs.blocks.put_header.Reads as put-header-reads
-use Rattle.images.proofs.model.put_model_pointers.Reads as put-model-pointers-reads
-use Rattle.images.proofs.model.put_models.Reads as put-models-reads
-use Rattle.images.proofs.parts.padded.Reads as padded-reads
-use Rattle.images.proofs.parts.pointer_to.Reads as pointer-to-reads
 
--- src/saving.rt:54:29
-mul-padded : tie.Need-mul-padded
-mul-padded c = search needs
+header-fits : tie.Need-put-header-requires
+header-fits c κs =
+    let start = c .before .before .before .before .before in
+    let s = start .args .list .now in
+    let p = start .pre in
+    omega (arith, image-fits s (p .0) (start .args .models) (p .1) (start .args .out .now) (p .2))
 
--- src/saving.rt:54:22
-padded-requires : tie.Need-padded-requires
-padded-requires c κs = search needs
+pointers-fit : tie.Need-put-model-pointers-requires
+pointers-fit c κs =
+    let start = c .before .before .before .before .before .before .before .before .before in
+    let s = start .args .list .now in
+    let p = start .pre in
+    let x = c .before .before .before .before .before .before .padded .ensures in
+    (models-within s (p .0) (start .args .models) (p .1), omega (arith, x, image-low s (p .0) (start .args .models) (p .1)), omega (arith, image-fits s (p .0) (start .args .models) (p .1) (start .args .out .now) (p .2)), omega (arith, few-models s (p .0) (start .args .models) (p .1)))
 
--- src/saving.rt:54:17
-add-first : tie.Need-add-first
-add-first c = search needs
+models-fit : tie.Need-put-models-requires
+models-fit c κs =
+    let start = c .before .before .before .before .before .before .before .before .before .before .before .before .before in
+    let s = start .args .list .now in
+    let p = start .pre in
+    let x = c .before .before .before .before .before .before .before .before .before .before .padded .ensures in
+    record { within = models-within s (p .0) (start .args .models) (p .1); few = few-geometries s (p .0) (start .args .models) (p .1); room = record { fits = omega (arith, x, image-fits s (p .0) (start .args .models) (p .1) (start .args .out .now) (p .2)); low = omega (arith, x, image-low s (p .0) (start .args .models) (p .1)) } }
 
--- src/saving.rt:55:21
-pointer-to-requires : tie.Need-pointer-to-requires
-pointer-to-requires c κs = search needs
-
--- src/saving.rt:55:45
-cast-put-header : tie.Need-cast-put-header
-cast-put-header c = search needs
-
--- src/saving.rt:55:5
-put-header-requires : tie.Need-put-header-requires
-put-header-requires c κs = ?
-
--- src/saving.rt:56:5
-put-model-pointers-requires : tie.Need-put-model-pointers-requires
-put-model-pointers-requires c κs = ?
-
--- src/saving.rt:57:5
-put-models-requires : tie.Need-put-models-requires
-put-models-requires c κs = ?
-
--- src/saving.rt:50:1
-same-length : tie.Need-same-length
-same-length c = search needs
-
--- src/saving.rt:50:1
 returns : tie.Need-returns
-returns c = ?
+returns c =
+    let start = c .before .before .before .before .before .before .before .before .before .before .before .before .before .before .before .before in
+    let s = start .args .list .now in
+    let p = start .pre in
+    image-written s (p .0) (start .args .models) (p .1) (start .args .out .now) (p .2) (c .before .before .before .before .before .before .before .before .before .before .before .before .before .padded .result) (c .before .before .before .before .before .before .before .before .before .before .before .pointer-to .result) (c .before .before .before .before .before .before .before .before .before .before .before .before .before .padded .ensures) (c .before .before .before .before .before .before .before .before .before .before .before .pointer-to .ensures) (c .before .before .before .before .before .before .before .before .before .before .put-header .ensures) (c .before .before .before .before .before .before .put-model-pointers .ensures) (c .before .before .put-models .ensures)
 
 pub put-image-spec : {M : Type 1} → statement M
 put-image-spec =
     tie.close
     (tie.spec
-    mul-padded
-    padded-requires
-    add-first
-    pointer-to-requires
-    cast-put-header
-    put-header-requires
-    put-model-pointers-requires
-    put-models-requires
-    same-length
+    (λ c. search needs)
+    (λ c κs. search needs)
+    (λ c. search needs)
+    (λ c κs. search needs)
+    (λ c. search needs)
+    header-fits
+    pointers-fit
+    models-fit
+    (λ c. search needs)
     returns)

@@ -1,52 +1,31 @@
+-- Behind a passed check the first n bytes are a sound list; where it fails nothing is written.
+use mathlib.Core.Path.{_≡_, sym, _∙_}
+use native.Mathlib.Omega.{arith}
 use borrow.Author.Needs.{needs}
+use lib.ListN.{length-take}
+use Rattle.halls.specs.Checks.{hallVerdict}
+use Rattle.halls.specs.declared.check.Verdict.the-variants.{Sound}
+use Rattle.halls.proofs.StepLaws.{Old, old}
+use Rattle.images.proofs.ListLaws.{sound-list}
+use Rattle.images.proofs.SavingLaws.{saved-fails, saved-sound}
 use Rattle.images.proofs.saving.save.Statement.{statement}
 use Rattle.images.proofs.saving.save.Tie as tie
-use Rattle.images.proofs.saving.save.Reads as reads
-use Rattle.images.proofs.saving.save.Lts as lts
-use Rattle.halls.proofs.hall_check.Reads as hall-check-reads
-use Rattle.images.proofs.saving.save_list.Reads as save-list-reads
 
--- src/saving.rt:27:11
-hall-check-requires : tie.Need-hall-check-requires
-hall-check-requires c κs = search needs
+passed : (c : tie.After-enum-told) → hallVerdict (c .before .before .before .before .before .args .hall .now) (c .before .before .before .before .before .args .n) ≡ Sound
+passed c = sym (c .before .before .hall-check .ensures) ∙ c .enum-told .given .1
 
--- src/saving.rt:28:37
-enum-told : tie.Need-enum-told
-enum-told c = search needs
-
--- src/saving.rt:28:37
-slice-aggregate-save-list : tie.Need-slice-aggregate-save-list
-slice-aggregate-save-list c = ?
-
--- src/saving.rt:28:27
-save-list-requires : tie.Need-save-list-requires
-save-list-requires c κs = ?
-
--- src/saving.rt:29:24
-enum-known-check : tie.Need-enum-known-check
-enum-known-check c = search needs
-
--- src/saving.rt:24:1
-same-length : tie.Need-same-length
-same-length c = search needs
-
--- src/saving.rt:24:1
-returns : tie.Need-returns
-returns c = ?
-
--- src/saving.rt:24:1
-returns-2 : tie.Need-returns-2
-returns-2 c = ?
+sound : (c : tie.After-enum-told) → Old (c .before .before .before .before .before .args .hall .now) (c .before .before .before .before .before .args .n)
+sound c = old _ _ (λ i. c .before .before .before .before .shared-slice-known .given i .fits) (passed c)
 
 pub save-spec : {M : Type 1} → statement M
 save-spec =
     tie.close
     (tie.spec
-    hall-check-requires
-    enum-told
-    slice-aggregate-save-list
-    save-list-requires
-    enum-known-check
-    same-length
-    returns
-    returns-2)
+    (λ c κs. search needs)
+    (λ c. search needs)
+    (λ c. simp length-take (omega (arith, sound (c .before) .within)))
+    (λ c κs. sound-list _ _ (sound (c .before .before)))
+    (λ c. search needs)
+    (λ c. search needs)
+    (λ c. saved-sound _ _ _ (passed (c .before .before .before .before .before)) (c .before .before .save-list .ensures))
+    (λ c. saved-fails _ _ _ _ (sym (c .before .before .before .hall-check .ensures) ∙ c .before .check .given .1)))

@@ -1,31 +1,30 @@
+-- The image has the size that was measured: it is written where it fits.
+use mathlib.Core.Path.{ap}
+use native.Mathlib.Omega.{arith}
 use borrow.Author.Needs.{needs}
+use Rattle.images.specs.declared.fronts.MeasuredHall.{MeasuredHall}
+use Rattle.images.proofs.SavingLaws.{saved-short, saved-done}
 use Rattle.images.proofs.saving.save_list.Statement.{statement}
 use Rattle.images.proofs.saving.save_list.Tie as tie
-use Rattle.images.proofs.saving.save_list.Reads as reads
-use Rattle.images.proofs.saving.save_list.Lts as lts
-use Rattle.images.proofs.fronts.measure_hall.Reads as measure-hall-reads
-use Rattle.images.proofs.saving.put_image.Reads as put-image-reads
-
--- src/saving.rt:38:9
-measure-hall-requires : tie.Need-measure-hall-requires
-measure-hall-requires c κs = search needs
-
--- src/saving.rt:40:9
-returns : tie.Need-returns
-returns c = ?
-
--- src/saving.rt:45:5
-put-image-requires : tie.Need-put-image-requires
-put-image-requires c κs = ?
-
--- src/saving.rt:34:1
-same-length : tie.Need-same-length
-same-length c = search needs
-
--- src/saving.rt:34:1
-returns-2 : tie.Need-returns-2
-returns-2 c = ?
 
 pub save-list-spec : {M : Type 1} → statement M
 save-list-spec =
-    tie.close (tie.spec measure-hall-requires returns put-image-requires same-length returns-2)
+    tie.close
+    (tie.spec
+    (λ c κs. search needs)
+    (λ c.
+    let start = c .before .before .before .before .before in
+    let m = c .before .before .measure-hall .ensures in
+    let size = ap (λ (x : MeasuredHall). x .size) m in
+    saved-short _ _ _ size (c .if1 .taken))
+    (λ c κs.
+    let start = c .before .before .before .before .before .before in
+    let m = c .before .before .before .measure-hall .ensures in
+    let size = ap (λ (x : MeasuredHall). x .size) m in
+    (start .pre, ap (λ (x : MeasuredHall). x .models) m, omega (arith, size, c .before .if1 .left)))
+    (λ c. search needs)
+    (λ c.
+    let start = c .before .before .before .before .before .before .before .before .before in
+    let m = c .before .before .before .before .before .before .measure-hall .ensures in
+    let size = ap (λ (x : MeasuredHall). x .size) m in
+    saved-done _ _ _ size (c .before .before .before .before .if1 .left) (c .before .before .put-image .ensures)))
