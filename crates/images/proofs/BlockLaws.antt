@@ -1,6 +1,5 @@
 -- Each block is zeros with its fields put over them, in any order.
 use mathlib.Core.Path.{_≡_, refl}
-use mathlib.Core.List.{List}
 use Prim.Native.Nat.{ℕ}
 use Rattle.sections.specs.Edit.{overwrite}
 use Rattle.sections.specs.Le.{bytes}

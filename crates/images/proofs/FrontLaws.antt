@@ -1,13 +1,11 @@
 -- The geometry and the model at the front of a list: their parts as the code reads them.
-use mathlib.Core.Path.{_≡_, refl, sym, ap, _∙_}
+use mathlib.Core.Path.{_≡_, refl, ap, _∙_}
 use mathlib.Core.List.{List}
-use Prim.Native.Nat.{ℕ, _+_, _*_, _-_, _/_, _≤_, _^_}
+use Prim.Native.Nat.{ℕ, _+_, _*_, _-_, _≤_, _^_}
 use native.Mathlib.Omega.{arith}
 use lib.ListN.{length, take, drop, length-take, length-drop}
 use Rattle.sections.specs.Edit.{part}
-use Rattle.sections.specs.Le.{field}
 use Rattle.sections.proofs.EditLaws.{part-length}
-use Rattle.halls.specs.Hall.{FullGeometry}
 use Rattle.halls.specs.ImageSize.{padded, geometrySize}
 use Rattle.halls.specs.Judging.{GeometryFront, contentAt, heldAt, frontGeometry}
 use Rattle.halls.specs.declared.judge.GeometryHead.{GeometryHead}

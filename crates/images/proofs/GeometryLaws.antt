@@ -23,7 +23,7 @@ use Rattle.images.specs.Fronts.{geometryLength, Shaped, Room, geometryNu
 use Rattle.images.specs.Image.{VertexBlock, base, filled, geometryBlockBytes, vertexBlockBytes, indexBlockBytes, geometryBlockOf, vertexBlockOf, indexBlockOf, geometryImage}
 use Rattle.images.specs.declared.fronts.GeometryShape.{GeometryShape}
 use Rattle.images.proofs.FrontLaws.{whole, geometry-front, content-length}
-use Rattle.images.proofs.PartLaws.{filled-length, Writing, writing-start, writing-turn, writing-last}
+use Rattle.images.proofs.PartLaws.{filled-length, writing-start, writing-turn, writing-last}
 use Rattle.images.proofs.SizeLaws.{head-length, index-block-length, geometry-image-length}
 
 -- ---- parts

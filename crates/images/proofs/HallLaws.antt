@@ -1,12 +1,11 @@
 -- The models of a sound list: counted, and each with few geometries.
-use mathlib.Core.Path.{_≡_, refl, sym, ap, _∙_}
-use mathlib.Core.List.{List, [], _∷_}
+use mathlib.Core.Path.{_≡_, refl, ap, _∙_}
+use mathlib.Core.List.{List}
 use Prim.Native.Nat.{ℕ, zero, suc, _+_, _*_, _-_, _≤_, _<_}
 use native.Mathlib.Omega.{arith}
 use lib.ListN.{length, take, drop}
 use Rattle.halls.specs.Checks.{geometryCount}
 use Rattle.halls.specs.Every.{sumOf}
-use Rattle.halls.specs.Hall.{FullModel, Hall}
 use Rattle.halls.specs.ImageSize.{padded, modelSize, imageSize}
 use Rattle.halls.specs.Judging.{entriesAt}
 use Rattle.halls.proofs.WalkLaws.{slice-rest}
@@ -15,7 +14,7 @@ use Rattle.images.specs.Image.{modelImage}
 use Rattle.images.specs.declared.fronts.Measured.{Measured}
 use Rattle.images.proofs.LayingLaws.{Laying}
 use Rattle.images.proofs.ModelLaws.{geometries-count}
-use Rattle.images.proofs.WalkLaws.{MeasuredAt, Walking, length-step, length-none, walk-start, walk-fits, walk-size, walk-turn, walk-left, walk-length, walk-sum}
+use Rattle.images.proofs.WalkLaws.{MeasuredAt, Walking, length-step, length-none, walk-start, walk-fits, walk-size, walk-turn, walk-left, walk-sum}
 
 -- ---- few geometries
 

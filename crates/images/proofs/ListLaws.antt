@@ -1,11 +1,9 @@
 -- A sound hall's list, read by its own lengths, is that hall.
-use mathlib.Core.Path.{_≡_, refl, sym, ap, _∙_, subst}
-use mathlib.Core.Bool.{true}
+use mathlib.Core.Path.{_≡_, refl, sym, ap, _∙_}
 use mathlib.Core.List.{List, [], _∷_, _++_, append-assoc, append-nil, map}
-use Prim.Native.Nat.{ℕ, zero, suc, _+_, _*_, _-_, _/_, _^_, _≤_, _<_}
+use Prim.Native.Nat.{ℕ, _+_, _*_, _-_, _^_, _≤_, _<_}
 use native.Mathlib.Omega.{arith}
 use borrow.Author.Tests.{leb-true}
-use lib.Dec.{leb}
 use lib.ListN.{length, take, drop, length-append, length-map}
 use lib.Seq.{take-at, drop-at}
 use Rattle.sections.specs.Edit.{part}
@@ -14,21 +12,19 @@ use Rattle.sections.proofs.AddressLaws.{both-true}
 use Rattle.sections.proofs.LeLaws.{length-bytes}
 use Rattle.vertices.specs.Declaration.{declarationBytes}
 use Rattle.vertices.proofs.DeclarationLaws.{declaration-length}
-use Rattle.halls.specs.Checks.{geometryCount, countsWithinLimits, imageWithinLimit, shaderIds, hallVerdict}
+use Rattle.halls.specs.Checks.{countsWithinLimits, imageWithinLimit}
 use Rattle.halls.specs.Every.{Each}
 use Rattle.halls.specs.Hall.{FullGeometry, FullModel, Hall, FullGeometryInWidth, FullModelInWidth, HallInWidth, listedGeometry, listedModel, hallBytes}
-use Rattle.halls.specs.ImageSize.{imageSize}
 use Rattle.halls.specs.Judging.{entriesAt, contentAt, heldAt, frontGeometry}
 use Rattle.halls.specs.List.{each, recordBytes, modelBody, geometryBody, verticesBody, indicesBody, modelRecord, geometryRecord, declarationRecord, verticesRecord, indicesRecord, writeGeometry, writeGeometries, writeModel}
-use Rattle.halls.specs.Parsing.{modelIn, geometryIn}
 use Rattle.halls.proofs.BodyLaws.{model-body-length, model-read-back, geometry-body-length, vertices-body-length, vertices-read-back, indices-body-length, geometry-read-back}
 use Rattle.halls.proofs.JudgingLaws.{field-part}
 use Rattle.halls.proofs.RecordLaws.{field-behind}
-use Rattle.halls.proofs.SoundLaws.{SoundHall, SoundGeometry, SoundModel, verdict-sound, sound-models}
+use Rattle.halls.proofs.SoundLaws.{SoundGeometry, SoundModel, verdict-sound, sound-models}
 use Rattle.halls.proofs.StepLaws.{Old}
 use Rattle.halls.proofs.ViewLaws.{record-length}
 use Rattle.halls.specs.List as list
-use Rattle.images.specs.Fronts.{itemsFrom, itemsLength, geometryLength, geometriesFrom, geometriesLength, frontModel, modelLength, modelsFrom, modelsLength, SoundList}
+use Rattle.images.specs.Fronts.{itemsFrom, itemsLength, geometryLength, geometriesFrom, geometriesLength, frontModel, modelLength, SoundList}
 
 -- ---- bytes behind other bytes
 

@@ -10,18 +10,16 @@ use Rattle.sections.proofs.EditLaws.{part-length}
 use Rattle.vertices.specs.Runs.{numbers, run}
 use Rattle.vertices.proofs.RunLaws.{numbers-length, run-numbers}
 use Rattle.halls.specs.Blocks.{ModelBlock}
-use Rattle.halls.specs.Every.{sumOf}
-use Rattle.halls.specs.Hall.{FullGeometry, FullModel}
 use Rattle.halls.specs.ImageSize.{padded, geometrySize, modelSize}
 use Rattle.halls.specs.Judging.{entriesAt, frontGeometry}
 use Rattle.halls.specs.Parsing.{mappingCount}
 use Rattle.halls.proofs.BodyLaws.{drop-below}
 use Rattle.halls.proofs.JudgingLaws.{field-part, numbers-part}
 use Rattle.halls.proofs.WalkLaws.{slice-rest}
-use Rattle.images.specs.Fronts.{geometryLength, geometriesFrom, geometriesLength, geometriesSize, behindRecord, frontModel, modelLength, modelNumbers, imageLimit, Room, GeometriesRoom}
+use Rattle.images.specs.Fronts.{geometryLength, geometriesFrom, geometriesLength, geometriesSize, behindRecord, frontModel, modelLength, modelNumbers, imageLimit, Room}
 use Rattle.images.specs.Image.{pointerTo, filled, addresses, laid, modelBlockBytes, modelBlockOf, geometryImage, modelImage}
 use Rattle.images.specs.declared.fronts.Measured.{Measured}
-use Rattle.images.proofs.PartLaws.{filled-length, Writing, writing-start, writing-turn, writing-last}
+use Rattle.images.proofs.PartLaws.{filled-length, writing-start, writing-turn, writing-last}
 use Rattle.images.proofs.SizeLaws.{model-block-length, pointers-length, model-image-length}
 use Rattle.images.proofs.WalkLaws.{items-count}
 

@@ -5,7 +5,7 @@ use mathlib.Core.List.{List, [], _++_, append-assoc, append-nil}
 use Prim.Native.Nat.{ℕ, _+_, _-_, _≤_}
 use native.Mathlib.Nat.{add-assoc}
 use native.Mathlib.Omega.{arith}
-use lib.ListN.{length, take, drop, length-append, length-take, length-drop, length-replicate}
+use lib.ListN.{length, take, drop, length-append, length-replicate}
 use lib.Seq.{length-take-le, take-append-le, take-append-add, drop-append-le, drop-append-add}
 use Rattle.sections.specs.Edit.{overwrite, fits, Edited}
 use Rattle.sections.specs.Le.{bytes}

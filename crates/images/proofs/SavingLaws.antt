@@ -4,11 +4,10 @@ use mathlib.Core.List.{List, _++_}
 use Prim.Native.Nat.{ℕ, _+_, _*_, _≤_, _<_}
 use native.Mathlib.Omega.{arith}
 use borrow.Author.Tests.{le-leb, lt-leb}
-use lib.ListN.{length, take, getD}
+use lib.ListN.{length, take}
 use Rattle.sections.specs.Edit.{overwrite}
 use Rattle.vertices.specs.Runs.{run}
 use Rattle.halls.specs.Checks.{geometryCount, hallVerdict}
-use Rattle.halls.specs.Every.{sumOf}
 use Rattle.halls.specs.Hall.{Hall}
 use Rattle.halls.specs.ImageSize.{padded, modelSize, imageSize}
 use Rattle.halls.specs.Parsing.{modelsIn}
@@ -19,7 +18,7 @@ use Rattle.halls.specs.declared.check.Verdict.the-variants.{Sound, Fails}
 use Rattle.images.specs.Fronts.{modelsFrom, modelsSize, modelsLength, modelLength, frontModel, imageLimit, hallOfList, modelCount, SoundList, SavedList}
 use Rattle.images.specs.Image.{headerBytes, pointerTo, filled, addresses, laid, modelImage, image}
 use Rattle.images.specs.Saving.{saved, Saved}
-use Rattle.images.proofs.PartLaws.{filled-length, Writing, writing-start, writing-turn, writing-last}
+use Rattle.images.proofs.PartLaws.{filled-length, writing-start, writing-turn, writing-last}
 use Rattle.images.proofs.SizeLaws.{header-length, pointers-length, image-size}
 use Rattle.images.proofs.WalkLaws.{items-count}
 

@@ -1,13 +1,12 @@
 -- How long an image is: each part has the length that its size counts.
-use mathlib.Core.Path.{_≡_, refl, sym, ap, _∙_}
+use mathlib.Core.Path.{_≡_, refl, ap, _∙_}
 use mathlib.Core.List.{List, [], _∷_, _++_}
-use Prim.Native.Nat.{ℕ, _+_, _*_, _≤_}
+use Prim.Native.Nat.{ℕ, _+_, _*_}
 use native.Mathlib.Omega.{arith}
 use lib.ListN.{length, length-append}
 use Rattle.sections.specs.Edit.{overwrite}
 use Rattle.sections.specs.Le.{bytes}
 use Rattle.sections.specs.declared.lists.PointerListHeader.{PointerListHeader}
-use Rattle.vertices.specs.Declaration.{declarationBytes}
 use Rattle.vertices.specs.Runs.{run}
 use Rattle.vertices.proofs.DeclarationLaws.{declaration-length}
 use Rattle.vertices.proofs.RunLaws.{length-run}
@@ -15,7 +14,7 @@ use Rattle.halls.specs.Blocks.{ModelBlock, GeometryBlock, IndexBlock}
 use Rattle.halls.specs.Every.{sumOf}
 use Rattle.halls.specs.Hall.{FullGeometry, FullModel, Hall}
 use Rattle.halls.specs.ImageSize.{padded, geometrySize, modelSize, imageSize}
-use Rattle.images.specs.Image.{VertexBlock, headerBytes, modelBlockBytes, geometryBlockBytes, vertexBlockBytes, indexBlockBytes, filled, laid, addresses, geometryBlockOf, vertexBlockOf, indexBlockOf, geometryImage, geometriesAt, modelBlockOf, modelImage, modelsAt, image}
+use Rattle.images.specs.Image.{VertexBlock, headerBytes, modelBlockBytes, geometryBlockBytes, vertexBlockBytes, indexBlockBytes, filled, laid, addresses, geometryImage, modelImage, image}
 use Rattle.images.proofs.PartLaws.{filled-length}
 
 -- ---- blocks

@@ -1,4 +1,4 @@
--- A hall's list as save reads it: geometries and models from a place on, each passed by its own lengths. Private contracts speak of this; `FrontLaws` ties it to the hall.
+-- A hall's list as save reads it: geometries and models from a place on, each passed by its own lengths. Private contracts speak of this; `ListLaws` ties it to the hall.
 use mathlib.Core.Path.{_≡_}
 use mathlib.Core.List.{List, [], _∷_, _++_}
 use Prim.Native.Nat.{ℕ, zero, suc, _+_, _*_, _≤_, _^_}
@@ -19,7 +19,6 @@ use Rattle.halls.specs.declared.check.Verdict.the-variants.{Sound}
 use Rattle.images.specs.Image.{VertexBlock, base, filled, geometryBlockBytes, pointerTo, vertexBlockBytes}
 use Rattle.images.specs.Saving.{savedBy}
 use Rattle.images.specs.declared.fronts.GeometryShape.{GeometryShape}
-use Rattle.images.specs.declared.fronts.Measured.{Measured}
 
 -- ---- k items from the front on, by the one at the front and its length
 

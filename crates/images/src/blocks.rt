@@ -65,14 +65,7 @@ pub fn put_geometry_block(
 }
 
 // Legacy, 0x80 bytes.
-pub fn put_vertex_block(
-    out: &mut [u8],
-    at: usize,
-    stride: u16,
-    content: u64,
-    count: u32,
-    info: u64,
-)
+pub fn put_vertex_block(out: &mut [u8], at: usize, stride: u16, content: u64, count: u32, info: u64)
     requires { ⌜ at + 0x80 ≤ length (now out) ⌝ }
     ensures { λ _. ⌜ now (out .exit) ≡ overwrite (now (out .entry)) at (vertexBlockBytes (record { stride = stride; content = content; count = count; info = info })) ⌝ }
 {

@@ -129,10 +129,5 @@ fn put_index_numbers(out: &mut [u8], at: usize, front: &[u8], content: usize)
     requires { ⌜ (at + 0x60 ≤ length (now out)) × (at ≤ imageLimit - 0x60) × (61 + content ≤ length (now front)) ⌝ }
     ensures { λ _. ⌜ now (out .exit) ≡ overwrite (now (out .entry)) at (indexBlockBytes (indexNumbers at content (now (front .entry)))) ⌝ }
 {
-    put_index_block(
-        out,
-        at,
-        u32_le(front, 61 + content),
-        address_of(at + 0x60),
-    );
+    put_index_block(out, at, u32_le(front, 61 + content), address_of(at + 0x60));
 }

@@ -76,13 +76,7 @@ fn put_model(out: &mut [u8], at: usize, front: &[u8])
     let mapping = at + 0x30 + padded(8 * entries);
     let geometries = mapping + padded(2 * entries);
     put_model_numbers(out, at, front, entries, mapping);
-    put_geometry_pointers(
-        out,
-        at + 0x30,
-        &front[behind..],
-        entries,
-        geometries,
-    );
+    put_geometry_pointers(out, at + 0x30, &front[behind..], entries, geometries);
     put_copy(out, mapping, &front[12..behind]);
     put_geometries(out, geometries, &front[behind..], entries);
 }

@@ -4,8 +4,6 @@ ghost use Prim.Native.Nat.{_≤_};
 ghost use lib.ListN.{length};
 ghost use Rattle.sections.specs.Edit.{overwrite};
 ghost use Rattle.halls.specs.ImageSize.{imageSize};
-ghost use Rattle.halls.specs.Outcome.{answerOf, after};
-ghost use Rattle.halls.specs.declared.check.Verdict.the-variants.{Sound};
 ghost use Rattle.images.specs.Fronts.{SoundList, SavedList, hallOfList, modelCount};
 ghost use Rattle.images.specs.Image.{image};
 ghost use Rattle.images.specs.Saving.{Saved};

@@ -1,9 +1,5 @@
 -- The sums are those of the lengths of its records and of its parts.
-use mathlib.Core.Path.{_≡_, sym, ap, _∙_}
-use Prim.Native.Nat.{ℕ}
-use native.Mathlib.Omega.{arith}
 use borrow.Author.Needs.{needs}
-use Rattle.images.specs.declared.fronts.Measured.{Measured}
 use Rattle.images.proofs.FrontLaws.{geometry-measured}
 use Rattle.images.proofs.fronts.measure_geometry.Statement.{statement}
 use Rattle.images.proofs.fronts.measure_geometry.Tie as tie

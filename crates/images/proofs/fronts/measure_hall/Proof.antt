@@ -1,7 +1,6 @@
 -- Each model passed adds its size; where the list ends none is left.
 use Prim.Native.Nat.{_-_}
 use native.Mathlib.Omega.{arith}
-use borrow.Author.Needs.{needs}
 use lib.ListN.{length}
 use Rattle.images.proofs.HallLaws.{Counting, counting-start, counting-more, counting-small, counting-few, counting-fits, counting-low, counting-turn, counting-sum, counting-models, counting-size}
 use Rattle.images.proofs.WalkLaws.{walk-measured, walk-place, walk-rest}

@@ -1,6 +1,5 @@
 -- Each turn writes the next geometry right behind those passed.
 use native.Mathlib.Omega.{arith}
-use borrow.Author.Needs.{needs}
 use Rattle.halls.specs.ImageSize.{geometrySize}
 use Rattle.halls.specs.Judging.{frontGeometry}
 use Rattle.images.specs.Fronts.{geometryLength}

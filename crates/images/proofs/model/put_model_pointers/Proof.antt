@@ -1,7 +1,6 @@
 -- The zeros are put right behind the addresses.
 use mathlib.Core.Path.{ap, _∙_}
 use Prim.Native.Nat.{ℕ, _*_}
-use native.Mathlib.Omega.{arith}
 use borrow.Author.Needs.{needs}
 use Rattle.halls.specs.ImageSize.{modelSize}
 use Rattle.images.specs.Fronts.{frontModel, modelLength}

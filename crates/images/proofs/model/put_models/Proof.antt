@@ -2,7 +2,6 @@
 use lib.ListN.{drop}
 use Prim.Native.Nat.{_≤_}
 use native.Mathlib.Omega.{arith}
-use borrow.Author.Needs.{needs}
 use Rattle.halls.specs.ImageSize.{modelSize}
 use Rattle.halls.specs.Checks.{geometryCount}
 use Rattle.images.specs.Fronts.{frontModel, modelLength, modelsFrom}
