@@ -13,7 +13,7 @@ use Rattle.images.specs.Fronts.{itemsLength, frontModel, modelLength, mo
 use Rattle.images.specs.Image.{modelImage}
 use Rattle.images.specs.declared.fronts.Measured.{Measured}
 use Rattle.images.proofs.LayingLaws.{Laying}
-use Rattle.images.proofs.ModelLaws.{geometries-count}
+use Rattle.images.proofs.WrittenModel.{geometries-count}
 use Rattle.images.proofs.WalkLaws.{MeasuredAt, Walking, length-step, length-none, walk-start, walk-fits, walk-size, walk-turn, walk-left, walk-sum}
 
 -- ---- few geometries

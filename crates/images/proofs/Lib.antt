@@ -1,12 +1,12 @@
 pub mod PartLaws
-pub mod BlockLaws
+pub mod WrittenBlock
 pub mod NarrowLaws
 pub mod WalkLaws
 pub mod FrontLaws
 pub mod SizeLaws
 pub mod LayingLaws
-pub mod GeometryLaws
-pub mod ModelLaws
+pub mod WrittenGeometry
+pub mod WrittenModel
 pub mod HallLaws
 pub mod ListLaws
 pub mod SavingLaws

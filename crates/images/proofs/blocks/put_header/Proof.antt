@@ -3,7 +3,7 @@ use mathlib.Core.Path.{ap, _∙_}
 use borrow.Author.Needs.{needs}
 use lib.Dec.{lit≤}
 use Rattle.sections.specs.Edit.{overwrite}
-use Rattle.images.proofs.BlockLaws.{header-puts}
+use Rattle.images.proofs.WrittenBlock.{header-puts}
 use Rattle.images.proofs.PartLaws.{block-zeros, block-put}
 use Rattle.images.proofs.blocks.put_header.Statement.{statement}
 use Rattle.images.proofs.blocks.put_header.Tie as tie

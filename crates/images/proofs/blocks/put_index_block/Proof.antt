@@ -3,7 +3,7 @@ use mathlib.Core.Path.{ap, _∙_}
 use borrow.Author.Needs.{needs}
 use lib.Dec.{lit≤}
 use Rattle.sections.specs.Edit.{overwrite}
-use Rattle.images.proofs.BlockLaws.{index-puts}
+use Rattle.images.proofs.WrittenBlock.{index-puts}
 use Rattle.images.proofs.PartLaws.{block-zeros, block-put}
 use Rattle.images.proofs.blocks.put_index_block.Statement.{statement}
 use Rattle.images.proofs.blocks.put_index_block.Tie as tie

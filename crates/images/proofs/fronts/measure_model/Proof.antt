@@ -1,7 +1,7 @@
 -- The record with its entries, and the geometries behind it.
 use native.Mathlib.Omega.{arith}
 use borrow.Author.Needs.{needs}
-use Rattle.images.proofs.ModelLaws.{record-fits, inner-fits, inner-low, model-length-is, model-size-is}
+use Rattle.images.proofs.WrittenModel.{record-fits, inner-fits, inner-low, model-length-is, model-size-is}
 use Rattle.images.proofs.fronts.measure_model.Statement.{statement}
 use Rattle.images.proofs.fronts.measure_model.Tie as tie
 

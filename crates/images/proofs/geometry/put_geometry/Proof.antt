@@ -5,7 +5,7 @@ use Rattle.images.proofs.FrontLaws.{geometry-room, slice-length}
 use Rattle.halls.proofs.WalkLaws.{slice-rest}
 use lib.ListN.{length-drop}
 use Prim.Native.Nat.{_+_}
-use Rattle.images.proofs.GeometryLaws.{geometry-written}
+use Rattle.images.proofs.WrittenGeometry.{geometry-written}
 use Rattle.images.proofs.geometry.put_geometry.Statement.{statement}
 use Rattle.images.proofs.geometry.put_geometry.Tie as tie
 

@@ -6,7 +6,7 @@ use Rattle.sections.specs.Edit.{overwrite, part}
 use Rattle.sections.proofs.EditLaws.{overwrite-behind, edited-behind}
 use Rattle.images.specs.Fronts.{vertexNumbers}
 use Rattle.images.proofs.FrontLaws.{slice-length}
-use Rattle.images.proofs.GeometryLaws.{head-joined}
+use Rattle.images.proofs.WrittenGeometry.{head-joined}
 use Rattle.images.proofs.SizeLaws.{block-filled-length, vertex-block-length, head-length}
 use Rattle.images.proofs.geometry.put_head.Statement.{statement}
 use Rattle.images.proofs.geometry.put_head.Tie as tie

@@ -3,7 +3,7 @@ use Prim.Native.Nat.{_+_, _*_}
 use native.Mathlib.Omega.{arith}
 use borrow.Author.Needs.{needs}
 use Rattle.images.proofs.FrontLaws.{slice-length}
-use Rattle.images.proofs.ModelLaws.{record-fits, inner-fits, model-fits, model-low, model-written}
+use Rattle.images.proofs.WrittenModel.{record-fits, inner-fits, model-fits, model-low, model-written}
 use Rattle.images.proofs.model.put_model.Statement.{statement}
 use Rattle.images.proofs.model.put_model.Tie as tie
 
