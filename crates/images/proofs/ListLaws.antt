@@ -17,13 +17,13 @@ use Rattle.halls.specs.Every.{Each}
 use Rattle.halls.specs.Hall.{FullGeometry, FullModel, Hall, FullGeometryInWidth, FullModelInWidth, HallInWidth, listedGeometry, listedModel, hallBytes}
 use Rattle.halls.specs.Judging.{entriesAt, contentAt, heldAt, frontGeometry}
 use Rattle.halls.specs.List.{each, recordBytes, modelBody, geometryBody, verticesBody, indicesBody, modelRecord, geometryRecord, declarationRecord, verticesRecord, indicesRecord, writeGeometry, writeGeometries, writeModel}
+use Rattle.halls.specs.List as list
 use Rattle.halls.proofs.BodyLaws.{model-body-length, model-read-back, geometry-body-length, vertices-body-length, vertices-read-back, indices-body-length, geometry-read-back}
 use Rattle.halls.proofs.JudgingLaws.{field-part}
 use Rattle.halls.proofs.RecordLaws.{field-behind}
 use Rattle.halls.proofs.SoundLaws.{SoundGeometry, SoundModel, verdict-sound, sound-models}
 use Rattle.halls.proofs.StepLaws.{Old}
 use Rattle.halls.proofs.ViewLaws.{record-length}
-use Rattle.halls.specs.List as list
 use Rattle.images.specs.Fronts.{itemsFrom, itemsLength, geometryLength, geometriesFrom, geometriesLength, frontModel, modelLength, SoundList}
 
 -- ---- bytes behind other bytes
@@ -103,9 +103,6 @@ module _ (g : FullGeometry) (w : FullGeometryInWidth g) (exact : length (g .vert
   long234 : length (r2 ++ (r3 ++ r4)) ≡ 55 + content
   long234 = simp length-append (omega (arith, long2, record-length 3 b3, declaration-length (g .declaration), record-length 4 b4, vertices-body-length (g .vertices)))
 
-  as3 : s ≡ r2 ++ (r3 ++ (r4 ++ (r5 ++ after)))
-  as3 = four
-
   as4 : s ≡ (r2 ++ r3) ++ (r4 ++ (r5 ++ after))
   as4 = four ∙ sym (append-assoc r2 r3 (r4 ++ (r5 ++ after)))
 
@@ -116,7 +113,7 @@ module _ (g : FullGeometry) (w : FullGeometryInWidth g) (exact : length (g .vert
   part2 = ap (λ (l : List ℕ). part l 6 14) four ∙ rw (geometry-body-length g) at (record-body [] 2 b2 (r3 ++ (r4 ++ (r5 ++ after))) 0 refl)
 
   part3 : part s 26 16 ≡ b3
-  part3 = ap (λ (l : List ℕ). part l 26 16) as3 ∙ rw (declaration-length (g .declaration)) at (record-body r2 3 b3 (r4 ++ (r5 ++ after)) 20 long2)
+  part3 = ap (λ (l : List ℕ). part l 26 16) four ∙ rw (declaration-length (g .declaration)) at (record-body r2 3 b3 (r4 ++ (r5 ++ after)) 20 long2)
 
   part4 : part s 48 (7 + content) ≡ b4
   part4 = ap (λ (l : List ℕ). part l 48 (7 + content)) as4 ∙ rw (vertices-body-length (g .vertices)) at (record-body (r2 ++ r3) 4 b4 (r5 ++ after) 42 long23)

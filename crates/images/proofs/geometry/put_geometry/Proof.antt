@@ -1,10 +1,10 @@
 -- Its parts are written one behind the other.
+use Prim.Native.Nat.{_+_}
 use native.Mathlib.Omega.{arith}
 use borrow.Author.Needs.{needs}
-use Rattle.images.proofs.FrontLaws.{geometry-room, slice-length}
-use Rattle.halls.proofs.WalkLaws.{slice-rest}
 use lib.ListN.{length-drop}
-use Prim.Native.Nat.{_+_}
+use Rattle.halls.proofs.WalkLaws.{slice-rest}
+use Rattle.images.proofs.FrontLaws.{geometry-room, slice-length}
 use Rattle.images.proofs.WrittenGeometry.{geometry-written}
 use Rattle.images.proofs.geometry.put_geometry.Statement.{statement}
 use Rattle.images.proofs.geometry.put_geometry.Tie as tie

@@ -1,6 +1,6 @@
 -- The low byte and then the high one are the two bytes of v.
-use borrow.Author.Needs.{needs}
 use native.Mathlib.Omega.{arith}
+use borrow.Author.Needs.{needs}
 use lib.ListN.{length-set}
 use Rattle.sections.proofs.LeLaws.{two-stores}
 use Rattle.images.proofs.indices.set_u16.Statement.{statement}

@@ -1,7 +1,7 @@
 -- The number of two bytes is the first and 256 times the second.
 use Prim.Native.Nat.{_+_}
-use borrow.Author.Needs.{needs}
 use native.Mathlib.Omega.{arith}
+use borrow.Author.Needs.{needs}
 use Rattle.sections.proofs.LeLaws.{le-add, le-one}
 use Rattle.images.proofs.indices.u16_at.Statement.{statement}
 use Rattle.images.proofs.indices.u16_at.Tie as tie

@@ -1,7 +1,7 @@
 -- Each turn writes the next model right behind those passed.
-use lib.ListN.{drop}
 use Prim.Native.Nat.{_≤_}
 use native.Mathlib.Omega.{arith}
+use lib.ListN.{drop}
 use Rattle.halls.specs.ImageSize.{modelSize}
 use Rattle.halls.specs.Checks.{geometryCount}
 use Rattle.images.specs.Fronts.{frontModel, modelLength, modelsFrom}
