@@ -1,20 +1,20 @@
-"""The hall book of document 01: what the calls make of a state, and what they refuse. Written from document 01, not from the program.
+"""The hall book of document 01: what the calls make of a state, what they refuse, and the image of a hall. Written from document 01, not from the program.
 
-A hall is a tuple of models; a call takes one and gives another, or raises Refused with the number of questions 21 to 23. `answered` asks the
-questions that every call has: 11 to 19 about the old hall and about the result, and 24."""
+A hall is a tuple of models; a call takes one and gives another, or raises Refused with the number of a question that it alone has. `answered` asks the
+questions that every call has: 11 to 19 about the old hall and about the result, and 24. `saved` asks those of save."""
 import collections
+import functools
+import struct
 
 import checks
+from blocks import declaration_bytes
+from drawables import Refused, read_models
 from layouts import components_of, encoded, shape_of, size_of
+from rows import SYSTEM
 
 Model = collections.namedtuple("Model", "binding mask geometries")
 Geometry = collections.namedtuple("Geometry", "shader declaration stride data indices")
 Declaration = collections.namedtuple("Declaration", "flags stride unknown count types")
-
-
-class Refused(Exception):
-    def __init__(self, number, needed=0):
-        self.number, self.needed = number, needed
 
 
 # ---- halls as models and as bytes
@@ -55,9 +55,14 @@ def held_geometry(g):
     return Geometry(g.shader, declaration, g.stride, g.data, tuple(g.held))
 
 
+def held_models(models):
+    """The hall of models that pass 11 to 19."""
+    return tuple(Model(m.binding, m.mask, tuple(held_geometry(g) for g in m.geometries)) for m in models)
+
+
 def held_hall(lent, n):
-    """The hall of the first n bytes, which pass 11 to 19."""
-    return tuple(Model(m.binding, m.mask, tuple(held_geometry(g) for g in m.geometries)) for m in checks.models_of(lent[:n]))
+    """The hall of the first n bytes."""
+    return held_models(checks.models_of(lent[:n]))
 
 
 # ---- calls
@@ -136,6 +141,33 @@ def replace_indices(hall, model, geometry, indices):
     return replaced(hall, model, old._replace(geometries=replaced(old.geometries, geometry, g._replace(indices=tuple(indices)))))
 
 
+@functools.lru_cache(None)
+def taken_geometry(numbers, parts):
+    """A geometry as it is read, but for its layout and a missing declaration; nothing where it lacks vertices or its index block does not resolve."""
+    found = dict(checks.records(parts))
+    if 4 not in found or 5 not in found:
+        return None
+    _, stride, count = struct.unpack_from("<BHI", found[4])
+    declaration = found.get(3, declaration_bytes(1, stride, 0, 1, 6))
+    read = struct.unpack("<HIIHH", numbers[6:]) + struct.unpack("<IHBBQ", declaration)
+    return checks.Geometry(*read, 0, stride, count, found[4][7:], struct.unpack_from("<I", found[5])[0], checks.numbers("I", found[5][4:]))
+
+
+def take_in(hall, system, graphics, va):
+    """The whole walk comes before the result, which is judged with the counts and strides read."""
+    models = []
+    for written_model, geometries in read_models({"system": system, "graphics": graphics}, va):
+        binding, mask = struct.unpack_from("<IH", written_model, 6)
+        models.append(checks.Model(binding, mask, [], [taken_geometry(*geometry) for geometry in geometries]))
+    if any(g is None for model in models for g in model.geometries):
+        raise Refused(11)
+    models = [model._replace(mapping=[g.shader for g in model.geometries]) for model in models]
+    check = checks.lowest(models)
+    if check:
+        raise Refused(check)
+    return held_models(models)
+
+
 def answered(call, arguments, lent, n):
     """The hall after a call on the first n of the bytes lent."""
     check = checks.verdict(lent, n)
@@ -154,6 +186,80 @@ def rewritten(lent, n, hall):
     """The bytes lent, after an accepted call: zeros from the new to a longer old n."""
     new = written(hall)
     return new + bytes(max(n - len(new), 0)) + lent[max(n, len(new)) :]
+
+
+# ---- images
+
+
+class Image:
+    """Parts one behind the other, each at a multiple of 16, all zeros until something is put there."""
+
+    def __init__(self):
+        self.data = bytearray()
+
+    def part(self, size):
+        """The place of so many bytes."""
+        at = len(self.data)
+        self.data += bytes(checks.padded(size))
+        return at
+
+    def put(self, at, *fields):
+        for offset, form, value in fields:
+            struct.pack_into("<" + form, self.data, at + offset, value)
+
+    def put_bytes(self, at, data):
+        self.data[at : at + len(data)] = data
+
+
+def address(at, count=1):
+    """An empty list has pointer 0."""
+    return SYSTEM + at if count else 0
+
+
+def put_geometry(out, g):
+    """The place of its block."""
+    count, indices = len(g.data) // g.stride, len(g.indices)
+    block, vertex_block, declaration, data, index_block, items = [out.part(size) for size in (0x98, 0x80, 16, len(g.data), 0x60, 2 * indices)]
+    out.put(block, (0x18, "Q", address(vertex_block)), (0x38, "Q", address(index_block)))
+    out.put(block, (0x58, "I", indices), (0x5C, "I", indices // 3), (0x60, "H", count), (0x70, "H", g.stride))
+    out.put(vertex_block, (0x08, "H", g.stride), (0x10, "Q", address(data)), (0x18, "I", count), (0x30, "Q", address(declaration)))
+    out.put_bytes(declaration, declaration_bytes(*g.declaration))
+    out.put_bytes(data, g.data)
+    out.put(index_block, (0x08, "I", indices), (0x10, "Q", address(items)))
+    out.put_bytes(items, struct.pack("<%dH" % indices, *g.indices))
+    return block
+
+
+def put_model(out, model):
+    count = len(model.geometries)
+    block, pointers, mapping = out.part(0x30), out.part(8 * count), out.part(2 * count)
+    out.put(block, (0x08, "Q", address(pointers, count)), (0x10, "H", count), (0x20, "Q", address(mapping, count)))
+    out.put(block, (0x28, "I", model.binding), (0x2C, "H", model.mask))
+    for number, g in enumerate(model.geometries):
+        out.put(mapping, (2 * number, "H", g.shader))
+        out.put(pointers, (8 * number, "Q", address(put_geometry(out, g))))
+    return block
+
+
+def image(hall):
+    """The system section that save writes."""
+    out, count = Image(), len(hall)
+    header, pointers = out.part(16), out.part(8 * count)
+    out.put(header, (0, "Q", address(pointers, count)), (8, "H", count), (10, "H", count))
+    for number, model in enumerate(hall):
+        out.put(pointers, (8 * number, "Q", address(put_model(out, model))))
+    return bytes(out.data)
+
+
+def saved(lent, n, room):
+    """The image of the hall in the first n of the bytes lent."""
+    check = checks.verdict(lent, n)
+    if check:
+        raise Refused(check)
+    out = image(held_hall(lent, n))
+    if len(out) > room:
+        raise Refused(20, len(out))
+    return out
 
 
 # ---- finding

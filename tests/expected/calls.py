@@ -19,6 +19,26 @@ rows = {}
 HUGE = [255, 256, 65536, 1 << 32, 1 << 40, 1 << 63, U64 - 1]
 
 
+# ---- further arguments, as the crate `replay` reads them
+
+
+def given_bytes(g):
+    """Of an added geometry: declaration, length of the vertex bytes, how many indices, and six of which the call takes the first; then the vertex bytes."""
+    return struct.pack("<IHBBQ2Q6I", *g.declaration, len(g.data), len(g.indices), *g.indices, *[7] * (6 - len(g.indices))) + g.data
+
+
+def value_bytes(semantic, value):
+    """The semantic, the shape, and four floats or bytes of which the value takes the first."""
+    shape, items = value
+    raw = bytes(items) if shape == "bytes" else struct.pack("<%dI" % len(items), *items)
+    return struct.pack("<2Q", semantic, SHAPES.index(shape)) + raw.ljust(16, b"\x7b")
+
+
+def index_bytes(indices):
+    """How many, and six of which the call takes the first."""
+    return struct.pack("<Q6I", len(indices), *indices, *[7] * (6 - len(indices)))
+
+
 # ---- rows
 
 
@@ -64,12 +84,9 @@ def add_model(buffer, n, room, binding=0xA1B2C3D4, mask=0xE5F6):
 
 
 def add_geometry(buffer, n, room, g, count=None):
-    """The further arguments: declaration, length of the vertex bytes, how many indices, and six of which the call takes the first; then the vertex bytes."""
     given = len(g.data) // g.stride if count is None else count
-    numbers = [g.shader, g.stride, given]
-    more = struct.pack("<IHBBQ2Q6I", *g.declaration, len(g.data), len(g.indices), *g.indices, *[7] * (6 - len(g.indices))) + g.data
     arguments = [g.shader, g.declaration, g.stride, given, g.data, g.indices]
-    return call_row(12, "add geometry", book.add_geometry, arguments, numbers, buffer, n, room, more)
+    return call_row(12, "add geometry", book.add_geometry, arguments, [g.shader, g.stride, given], buffer, n, room, given_bytes(g))
 
 
 def remove_model(buffer, n, room, model):
@@ -81,18 +98,12 @@ def remove_geometry(buffer, n, room, model, geometry):
 
 
 def set_attribute(buffer, n, room, model, geometry, vertex, semantic, value):
-    """The further arguments: the semantic, the shape, and four floats or bytes of which the value takes the first."""
-    shape, items = value
-    raw = bytes(items) if shape == "bytes" else struct.pack("<%dI" % len(items), *items)
-    more = struct.pack("<2Q", semantic, SHAPES.index(shape)) + raw.ljust(16, b"\x7b")
     arguments = [model, geometry, vertex, semantic, value]
-    return call_row(8, "set attribute", book.set_attribute, arguments, [model, geometry, vertex], buffer, n, room, more)
+    return call_row(8, "set attribute", book.set_attribute, arguments, [model, geometry, vertex], buffer, n, room, value_bytes(semantic, value))
 
 
 def replace_indices(buffer, n, room, model, geometry, indices):
-    """The further arguments: how many indices, and six of which the call takes the first."""
-    more = struct.pack("<Q6I", len(indices), *indices, *[7] * (6 - len(indices)))
-    return call_row(11, "replace indices", book.replace_indices, [model, geometry, indices], [model, geometry], buffer, n, room, more)
+    return call_row(11, "replace indices", book.replace_indices, [model, geometry, indices], [model, geometry], buffer, n, room, index_bytes(indices))
 
 
 def found_row(kind, name, numbers, buffer, n, room, found):

@@ -4,12 +4,12 @@ use mathlib.Core.Bool.{true}
 use mathlib.Core.List.{List, [], _∷_, _++_, append-assoc, append-nil}
 use Prim.{Unit}
 use Prim.Native.Nat.{ℕ, zero, suc, _+_, _*_, _^_, _≤_, _<_}
-use native.Mathlib.Nat.{suc-mul}
+use native.Mathlib.Nat.{pow-le-pow-right}
 use native.Mathlib.Omega.{arith}
 use borrow.Author.Tests.{eq-eqb}
 use lib.Dec.{lit<}
-use lib.ListN.{length, take, drop, getD, length-append, length-drop, take-append-drop, drop-of-length-le}
-use lib.Seq.{drop-at, drop-drop, getD-drop, length-take-le, take-all}
+use lib.ListN.{length, take, drop, getD, length-append, length-take, length-drop, take-append-drop, drop-of-length-le}
+use lib.Seq.{drop-at, drop-drop, getD-drop, take-all}
 use Rattle.sections.specs.Edit.{part}
 use Rattle.sections.specs.Le.{le, bytes, field}
 use Rattle.sections.proofs.EditLaws.{part-add, take-below}
@@ -101,14 +101,14 @@ put-whole ws s f h = put-fields ws s 0 f (omega arith) (drop (total ws) s) ∙ t
 
 -- ---- runs
 
-numbers-below : (k n : ℕ) (s : List ℕ) → AllBytes s → n * k ≤ length s → Each (λ (i : ℕ). i < 256 ^ k) (numbers k n s)
+pub numbers-below : (k n : ℕ) (s : List ℕ) → AllBytes s → Each (λ (i : ℕ). i < 256 ^ k) (numbers k n s)
 unfolding Each numbers
-numbers-below k zero s f h = tt
-numbers-below k (suc n) s f h =
-    let h′ : n * k + k ≤ length s = rw suc-mul at h in
-    let l : length (take k s) ≡ k = length-take-le k s (omega arith) in
-    let b : le (take k s) < 256 ^ length (take k s) = le-bound (take k s) (take-below k s f) in
-    (rw l at b, numbers-below k n (drop k s) (drop-below k s f) (rw length-drop (omega arith)))
+numbers-below k zero s f = tt
+numbers-below k (suc n) s f =
+    let short : length (take k s) ≤ k = rw length-take (omega arith) in
+    let most : 256 ^ length (take k s) ≤ 256 ^ k = pow-le-pow-right (lit< tt) short in
+    let below : le (take k s) < 256 ^ length (take k s) = le-bound (take k s) (take-below k s f) in
+    (omega arith, numbers-below k n (drop k s) (drop-below k s f))
 
 -- the whole of some bytes as a run
 run-whole : (k n : ℕ) (s : List ℕ) → AllBytes s → length s ≡ n * k → run k (numbers k n s) ≡ s
@@ -159,7 +159,7 @@ module _ {b : List ℕ} (p : Proper 1 b) where
   model-in-width gs w = record {
     binding = field-bound 4 b 0 (p .below);
     mask = field-bound 2 b 4 (p .below);
-    entries = numbers-below 2 (mappingCount b) (drop 6 b) (drop-below 6 b (p .below)) (omega (arith, model-left));
+    entries = numbers-below 2 (mappingCount b) (drop 6 b) (drop-below 6 b (p .below));
     mapping = rw (numbers-length 2 (mappingCount b) (drop 6 b)) (omega (arith, model-long, p .short));
     geometries = w;
   }
@@ -306,7 +306,7 @@ module _ {b2 b3 b4 b5 : List ℕ} (p2 : Proper 2 b2) (p3 : Proper 3 b3) (p4 : Pr
     verticesCount = field-bound 4 b4 3 (p4 .below);
     content = rw (length-drop 7 b4) (omega (arith, vertices-long p4, p4 .short));
     indicesCount = field-bound 4 b5 0 (p5 .below);
-    items = numbers-below 4 (heldCount b5) (drop 4 b5) (drop-below 4 b5 (p5 .below)) (omega (arith, indices-left p5));
+    items = numbers-below 4 (heldCount b5) (drop 4 b5) (drop-below 4 b5 (p5 .below));
     held = rw (numbers-length 4 (heldCount b5) (drop 4 b5)) (omega (arith, indices-long p5, p5 .short));
   }
 

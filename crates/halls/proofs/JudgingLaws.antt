@@ -15,7 +15,7 @@ use Rattle.sections.specs.Le.{field, le}
 use Rattle.sections.proofs.AddressLaws.{both-true}
 use Rattle.sections.proofs.EditLaws.{part-length, part-part}
 use Rattle.sections.proofs.LeLaws.{field-in}
-use Rattle.vertices.specs.Declaration.{componentOf, componentsFrom, declarationAt, foundComponent, sizes, totalSize}
+use Rattle.vertices.specs.Declaration.{componentsFrom, declarationAt, foundComponent, sizes}
 use Rattle.vertices.specs.Runs.{numbers}
 use Rattle.vertices.specs.Types.{componentType, sizeOf}
 use Rattle.vertices.specs.declared.declaration.FoundComponent.the-variants.{Component, Missing}

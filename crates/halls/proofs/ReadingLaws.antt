@@ -27,12 +27,12 @@ read-injective {x = x} e = ap (valueOr x) e
 pub not-read : {A : Type 0} {check : ℕ} {x : A} → refused check ≡ read x → ⊥
 not-read e = let z : _≡_ {A = ℕ} 0 1 = cc in absurd (omega arith)
 
-pub record Needed {B : Type 0} (o : Option (List ℕ)) (f : List ℕ → Reading B) (y : B) : Type 0 where
-  pub found : List ℕ
+pub record Needed {A B : Type 0} (o : Option A) (f : A → Reading B) (y : B) : Type 0 where
+  pub found : A
   pub is : o ≡ some found
   pub onward : f found ≡ read y
 
-pub need-read : {B : Type 0} (check : ℕ) (o : Option (List ℕ)) (f : List ℕ → Reading B) (y : B) → need check o f ≡ read y → Needed o f y
+pub need-read : {A B : Type 0} (check : ℕ) (o : Option A) (f : A → Reading B) (y : B) → need check o f ≡ read y → Needed o f y
 need-read check none f y e = absurd (not-read e)
 need-read check (some b) f y e = record { found = b; is = refl; onward = e }
 

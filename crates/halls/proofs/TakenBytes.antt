@@ -1,7 +1,7 @@
 -- The bytes of what is taken in: those of a view's four records, of a model's geometries, and of the hall that `takeIn` proposes.
 use mathlib.Core.Path.{_≡_, refl, sym, ap, _∙_}
-use mathlib.Core.List.{List, [], _∷_, _++_, map, append-assoc, append-nil}
-use mathlib.Core.Option.{Option, none, some, Option·map, Option·getD}
+use mathlib.Core.List.{List, [], _∷_, _++_, map}
+use mathlib.Core.Option.{Option, none, some, Option·map}
 use Prim.Native.Nat.{ℕ, _+_, _*_, _/_, _≤_}
 use native.Mathlib.Omega.{arith}
 use lib.ListN.{length, length-append}
@@ -10,32 +10,27 @@ use Rattle.sections.specs.Edit.{overwrite}
 use Rattle.sections.specs.Le.{bytes}
 use Rattle.sections.proofs.EditLaws.{overwrite-ahead, overwrite-behind}
 use Rattle.sections.proofs.LeLaws.{length-bytes}
-use Rattle.vertices.specs.Buffer.{orPositionOnly, vertexBufferAt}
-use Rattle.vertices.specs.Declaration.{positionOnly}
+use Rattle.vertices.specs.Buffer.{orPositionOnly}
 use Rattle.vertices.specs.Runs.{numbers, run}
-use Rattle.vertices.specs.declared.buffer.StoredDeclaration.{StoredDeclaration}
-use Rattle.vertices.specs.declared.buffer.StoredDeclaration.the-variants.{Declaration, Absent}
 use Rattle.vertices.specs.declared.buffer.VertexBuffer.{VertexBuffer}
-use Rattle.vertices.specs.declared.buffer.FoundBuffer.{FoundBuffer}
 use Rattle.vertices.specs.declared.buffer.FoundBuffer.the-variants.{Buffer, NotFound}
 use Rattle.vertices.specs.declared.declaration.VertexDeclaration.{VertexDeclaration}
 use Rattle.vertices.proofs.RunLaws.{numbers-length}
 use Rattle.halls.specs.Calls.{takenGeometry, takenModel, both, allOf}
 use Rattle.halls.specs.Hall.{FullGeometry, FullModel, Hall, listedGeometry, listedModel, hallBytes}
-use Rattle.halls.specs.List.{Vertices, Indices, Geometry, Model, optional, each, recordBytes, modelNumbers, geometryRecord, modelRecord, writeGeometry, writeGeometries, writeModel, write}
-use Rattle.halls.specs.Blocks.{ModelBlock, modelBlock, GeometryBlock, geometryBlock, indexBlock}
-use Rattle.halls.specs.Reading.{first, rest, declarationOf, orEmpty, verticesOf, indicesOf, geometryWith, geometryOf}
-use Rattle.halls.specs.Taking.{indicesShown, geometryShown, asHalls, geometryBytes, modelBytes, recordsShown, fullShown}
-use Rattle.halls.specs.View.{ListsOf, heldCount, indexViewIn, viewWith, geometryView, geometryIn, geometriesAt, modelOf, modelIn}
-use Rattle.halls.specs.declared.view.FoundIndices.{FoundIndices}
+use Rattle.halls.specs.List.{Vertices, Indices, Geometry, Model, optional, each, recordBytes, modelNumbers, geometryRecord, modelRecord, writeGeometry, writeGeometries, writeModel}
+use Rattle.halls.specs.Blocks.{ModelBlock, modelBlock, geometryBlock}
+use Rattle.halls.specs.Reading.{first, rest, orEmpty, verticesOf, geometryWith, geometryOf}
+use Rattle.halls.specs.Taking.{geometryShown, asHalls, geometryBytes, modelBytes, recordsShown, fullShown}
+use Rattle.halls.specs.View.{ListsOf, heldCount, geometryView, geometryIn, geometriesAt, modelOf, modelIn}
 use Rattle.halls.specs.declared.view.FoundIndices.the-variants.{Indices as Seen, Absent as Unseen}
 use Rattle.halls.specs.declared.view.GeometryView.{GeometryView}
 use Rattle.halls.specs.declared.view.IndexView.{IndexView}
-use Rattle.halls.proofs.EachLaws.{each-append, each-one}
+use Rattle.halls.proofs.EachLaws.{each-one}
 use Rattle.halls.proofs.HeldLaws.{items-length}
 use Rattle.halls.proofs.ModelLaws.{mapping-numbers, pointer-numbers}
 use Rattle.halls.proofs.ShownLaws.{shown-is, shown-full, lacks-vertices, lacks-indices}
-use Rattle.halls.proofs.ViewLaws.{buffer-in-found, block-view-is, record-length, geometry-record-length, declaration-record-length, vertices-record-length, indices-record-length}
+use Rattle.halls.proofs.ViewLaws.{record-length, geometry-record-length, declaration-record-length, vertices-record-length, indices-record-length}
 
 -- ---- a view
 

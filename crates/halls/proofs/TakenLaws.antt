@@ -1,17 +1,16 @@
 -- What `takeIn` proposes, check by check, and the step that it comes to.
 use mathlib.Core.Path.{_≡_, refl, sym, ap, _∙_}
-use mathlib.Core.Bool.{Bool, true, false}
-use mathlib.Core.List.{List, []}
+use mathlib.Core.Bool.{true, false}
+use mathlib.Core.List.{List}
 use mathlib.Core.Option.{Option, none, some}
-use Prim.Native.Nat.{ℕ, _+_, _≤_, _<_, _-_, max}
+use Prim.Native.Nat.{ℕ, _≤_, _<_, _-_}
 use native.Mathlib.Omega.{arith}
 use borrow.Author.Tests.{le-leb, lt-leb}
-use lib.ListN.{length, drop, replicate}
+use lib.ListN.{length}
 use Rattle.sections.specs.Address.{Sections, resolved, withinLimit}
-use Rattle.sections.specs.Edit.{overwrite, Edited}
 use Rattle.sections.specs.Lists.{headerLength, foundHeader, headerAt}
 use Rattle.sections.specs.declared.lists.PointerListHeader.{PointerListHeader}
-use Rattle.halls.specs.Calls.{Call, takeIn, taken, takenModel, allOf, proposed}
+use Rattle.halls.specs.Calls.{takeIn, taken, takenModel, allOf, proposed}
 use Rattle.halls.specs.Checks.{verdict}
 use Rattle.halls.specs.Hall.{Hall, hallBytes}
 use Rattle.halls.specs.List.{Model, each, write}
@@ -22,7 +21,6 @@ use Rattle.halls.specs.Step.{rewritten, Stepped, stateIn}
 use Rattle.halls.specs.Taking.{allTaken, modelTaken, modelBytes, orEmptyList, headerOrEmpty}
 use Rattle.halls.specs.View.{modelsAt}
 use Rattle.halls.specs.Walk.{verdictOf}
-use Rattle.halls.specs.declared.answer.Answer.{Answer}
 use Rattle.halls.specs.declared.answer.Answer.the-variants.{Accepted, Refused}
 use Rattle.halls.specs.declared.check.Verdict.the-variants.{Sound, Fails}
 use Rattle.halls.specs.declared.judge_read.Taken.{Taken}
@@ -34,7 +32,7 @@ use Rattle.halls.proofs.ReadingLaws.{ReadAs, read-as, refusal-is}
 use Rattle.halls.proofs.SecondPass.{models-read}
 use Rattle.halls.proofs.StepLaws.{Old, stays-barred, stays-judged, stays-long, becomes-new}
 use Rattle.halls.proofs.TakenBytes.{taken-bytes}
-use Rattle.halls.proofs.TakenVerdict.{lowestTaken, Judged, taken-verdict}
+use Rattle.halls.proofs.TakenVerdict.{lowestTaken, taken-verdict}
 
 -- ---- the header
 

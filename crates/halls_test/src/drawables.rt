@@ -3,11 +3,10 @@ use crate::buffers::list_buffer;
 use crate::buffers::long_list_buffer;
 use crate::buffers::long_section;
 use halls::Answer;
-use halls::Refusal;
 use halls::hall_list;
+use replay::answered;
+use replay::nothing;
 use testing::Row;
-use testing::bytes;
-use testing::checksum;
 use testing::first;
 use testing::number;
 use testing::numbers;
@@ -20,35 +19,7 @@ fn list_into<'a>(system: &'a [u8], graphics: &'a [u8], row: Row, list: &mut [u8]
     if room <= list.len() {
         return hall_list(system, graphics, row.c, &mut list[..room]);
     }
-    Answer::Refused(Refusal {
-        check: 0,
-        needed: 0,
-    })
-}
-
-// The answer, the checksum of the whole buffer that the first d bytes were lent of, the triangles of an accepted list, and the
-// bytes of one of at most 256.
-pub fn answered(answer: Answer, list: &[u8]) {
-    match answer {
-        Answer::Accepted(length) => {
-            text(b" accepted");
-            number(length);
-            number(checksum(list));
-            let written = first(list, length as usize);
-            number(halls::triangle_count(written));
-            if length <= 256 {
-                bytes(written);
-            }
-        }
-        Answer::Refused(refusal) => {
-            text(b" refused");
-            number(refusal.check as u64);
-            text(b" needed");
-            number(refusal.needed);
-            number(checksum(list));
-        }
-    }
-    text(b"\n");
+    nothing()
 }
 
 // Sections of a and b bytes, in the row.

@@ -1,7 +1,6 @@
 -- Every call keeps the widths of a state: the numbers of the hall that it proposes fit their fields.
-use mathlib.Core.Path.{_≡_, refl, ap, _∙_}
+use mathlib.Core.Path.{_≡_, ap, _∙_}
 use mathlib.Core.List.{List, [], _∷_, _++_, map, map-append}
-use mathlib.Core.Option.{Option, none, some}
 use Prim.Native.Nat.{ℕ, _+_, _*_, _-_, _<_}
 use lib.Dec.{ltb, lit<}
 use lib.ListN.{length, take, drop}
@@ -20,16 +19,11 @@ use Rattle.halls.specs.Places.{item}
 use Rattle.halls.specs.Reading.{Reading, read, need}
 use Rattle.halls.specs.State.{Geometry, Model, State, vertexCount, fullModel, hallOf, geometryState, modelState, stateOf, GeometryInWidth, ModelInWidth, StateInWidth}
 use Rattle.halls.proofs.EveryLaws.{each-below, below-each}
-use Rattle.halls.proofs.ReadingLaws.{read-injective, not-read, then-read}
+use Rattle.halls.proofs.ReadingLaws.{need-read, read-injective, then-read}
 use Rattle.halls.proofs.SoundEdits.{each-join, each-take, each-drop, each-item, each-without, each-replaced, map-replaced}
 use Rattle.halls.proofs.StateLaws.{state-of-hall}
 use Rattle.images.specs.Runs.{Bytes, GivenFits, Fits}
 use Rattle.images.proofs.ReadWidths.{test-passed, taken-in-width}
-
--- what was needed was there
-by-need : {A B P : Type 0} (check : ℕ) (o : Option A) (f : A → Reading B) (y : B) → need check o f ≡ read y → ((x : A) → o ≡ some x → f x ≡ read y → P) → P
-by-need check none f y e next = absurd (not-read e)
-by-need check (some x) f y e next = next x refl e
 
 -- ---- bytes
 
@@ -53,8 +47,9 @@ overwritten-bytes s at v f g =
 attribute-kept : (vertex semantic : ℕ) (g : Geometry) (value : VertexAttributeValue) (g′ : Geometry) → GeometryInWidth g → attributeSet vertex semantic g value ≡ read g′ → GeometryInWidth g′
 unfolding attributeSet
 attribute-kept vertex semantic g value g′ w e =
-    by-need 22 (componentOf (g .declaration) semantic) _ g′ (test-passed 21 (ltb vertex (vertexCount g)) _ g′ e) (λ c is onward.
-    let set = test-passed 23 (hasShape (c .«component_type») value) _ g′ (test-passed 22 (ltb 0 (c .size)) _ g′ onward) in
+    let r = need-read 22 (componentOf (g .declaration) semantic) _ g′ (test-passed 21 (ltb vertex (vertexCount g)) _ g′ e) in
+    let c = r .found in
+    let set = test-passed 23 (hasShape (c .«component_type») value) _ g′ (test-passed 22 (ltb 0 (c .size)) _ g′ (r .onward)) in
     let written : List ℕ = encodedBytes (c .«component_type») value in
     rw (← read-injective set) (record {
       shader = w .shader;
@@ -62,7 +57,7 @@ attribute-kept vertex semantic g value g′ w e =
       stride = w .stride;
       content = overwritten-bytes (g .content) (vertex * g .stride + c .offset) written (w .content) (encoded-are-bytes (c .«component_type») value);
       indices = w .indices;
-    }))
+    })
 
 -- ---- a model
 
@@ -101,14 +96,15 @@ geometry-kept m g s model changed w v u =
 
 module _ (s : State) (h : Hall) (w : StateInWidth s) where
   on-model : (m : ℕ) (f : Model → Reading Hall) → ((model : Model) → ModelInWidth model → f model ≡ read h → StateInWidth (stateOf h)) → need 21 (item m s) f ≡ read h → StateInWidth (stateOf h)
-  on-model m f next e = by-need 21 (item m s) f h e (λ model is onward. next model (each-item ModelInWidth m s model is w) onward)
+  on-model m f next e = let r = need-read 21 (item m s) f h e in next (r .found) (each-item ModelInWidth m s (r .found) (r .is) w) (r .onward)
 
   on-geometry : (m g : ℕ) (f : Model → Geometry → Reading Hall)
       → ((model : Model) (geometry : Geometry) → ModelInWidth model → GeometryInWidth geometry → f model geometry ≡ read h → StateInWidth (stateOf h))
       → need 21 (item m s) (λ model. need 21 (item g (model .geometries)) (λ geometry. f model geometry)) ≡ read h → StateInWidth (stateOf h)
   on-geometry m g f next e =
-      on-model m _ (λ model v onward. by-need 21 (item g (model .geometries)) _ h onward
-      (λ geometry is last. next model geometry v (each-item GeometryInWidth g (model .geometries) geometry is (v .geometries)) last)) e
+      on-model m _ (λ model v onward.
+      let r = need-read 21 (item g (model .geometries)) _ h onward in
+      next model (r .found) v (each-item GeometryInWidth g (model .geometries) (r .found) (r .is) (v .geometries)) (r .onward)) e
 
 pub call-kept : (c : Call) (s : State) (h : Hall) → Fits c → StateInWidth s → proposed c s ≡ read h → StateInWidth (stateOf h)
 unfolding proposed Each

@@ -9,3 +9,16 @@ pub mod CallWidths
 pub mod BufferLaws
 pub mod RunLaws
 pub mod EveryList
+pub mod Vectors
+pub mod PartLaws
+pub mod WrittenBlock
+pub mod NarrowLaws
+pub mod WalkLaws
+pub mod FrontLaws
+pub mod SizeLaws
+pub mod LayingLaws
+pub mod WrittenGeometry
+pub mod WrittenModel
+pub mod HallLaws
+pub mod ListLaws
+pub mod SavingLaws

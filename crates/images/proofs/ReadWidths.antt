@@ -4,19 +4,17 @@ use mathlib.Core.Bool.{Bool, true, false, cond}
 use mathlib.Core.List.{List, [], _∷_, map}
 use mathlib.Core.Option.{Option, none, some, Option·map, Option·getD}
 use Prim.{Unit}
-use Prim.Native.Nat.{ℕ, zero, suc, _^_, _≤_, _<_}
-use native.Mathlib.Nat.{pow-le-pow-right}
+use Prim.Native.Nat.{ℕ, _^_, _≤_, _<_}
 use native.Mathlib.Omega.{arith}
 use lib.Dec.{eqb, lit<}
-use lib.ListN.{length, take, drop, length-take}
 use Rattle.sections.specs.Address.{Sections, withinLimit, located, partOf, rangeOf, resolved}
 use Rattle.sections.specs.Edit.{part, fits}
-use Rattle.sections.specs.Le.{le, field}
+use Rattle.sections.specs.Le.{field}
 use Rattle.sections.specs.Lists.{headerOf, headerLength}
 use Rattle.sections.specs.declared.lookup.Located.{Located}
 use Rattle.sections.specs.declared.lookup.Located.the-variants.{System, Graphics, Nothing}
-use Rattle.sections.proofs.EditLaws.{take-below, part-below}
-use Rattle.sections.proofs.LeLaws.{le-bound, field-bound}
+use Rattle.sections.proofs.EditLaws.{part-below}
+use Rattle.sections.proofs.LeLaws.{field-bound}
 use Rattle.vertices.specs.Buffer.{declarationIn, storedDeclaration, vertexData, foundAt, legacyAt, plainAt, orElse, blockBuffer, inBlock, vertexBufferAt}
 use Rattle.vertices.specs.Declaration.{InWidth}
 use Rattle.vertices.specs.Runs.{numbers}
@@ -34,7 +32,7 @@ use Rattle.halls.specs.List.{Vertices, Indices, Geometry, Model}
 use Rattle.halls.specs.Reading.{Reading, read, need, listAt, indicesAt, sizedIndices, indicesOf, declarationOf, storedIn, verticesOf, geometryWith, geometryOf, first, rest, mappingOf, readModels, readHeader, readList}
 use Rattle.halls.specs.State.{geometryState, modelState, stateOf, GeometryInWidth, ModelInWidth, StateInWidth}
 use Rattle.halls.specs.View.{geometryIn, geometriesAt, modelOf, modelIn, modelsAt}
-use Rattle.halls.proofs.BodyLaws.{AllBytes, drop-below}
+use Rattle.halls.proofs.BodyLaws.{AllBytes, numbers-below}
 use Rattle.halls.proofs.EveryLaws.{below-each}
 use Rattle.halls.proofs.ReadingLaws.{read-injective, not-read, need-read, then-read}
 use Rattle.halls.proofs.SecondPass.{models-read}
@@ -61,17 +59,6 @@ there-or P (some x) y v w = v
 there-cond : {A : Type 0} (P : A → Type 0) (t : Bool) (x y : Option A) → IfThere P x → IfThere P y → IfThere P (cond t x y)
 there-cond P true x y v w = v
 there-cond P false x y v w = w
-
--- ---- numbers
-
-numbers-fit : (k n : ℕ) (s : List ℕ) → AllBytes s → Each (λ (i : ℕ). i < 256 ^ k) (numbers k n s)
-unfolding numbers Each
-numbers-fit k zero s f = tt
-numbers-fit k (suc n) s f =
-    let short : length (take k s) ≤ k = rw length-take (omega arith) in
-    let most : 256 ^ length (take k s) ≤ 256 ^ k = pow-le-pow-right (lit< tt) short in
-    let below : le (take k s) < 256 ^ length (take k s) = le-bound (take k s) (take-below k s f) in
-    (omega arith, numbers-fit k n (drop k s) (drop-below k s f))
 
 -- ---- a list whose numbers fit
 
@@ -125,7 +112,7 @@ module _ (s : Sections) (system : AllBytes (s .system)) (graphics : AllBytes (s 
       let Fit : List ℕ → Type 0 = Each (λ (i : ℕ). i < 256 ^ width) in
       there-cond Fit (eqb count 0) (some []) _ tt
       (there-cond Fit (eqb pointer 0) (some []) _ tt
-      (there-map AllBytes Fit (numbers width count) (λ b f. numbers-fit width count b f) (resolved s pointer _) (resolved-bytes pointer _)))
+      (there-map AllBytes Fit (numbers width count) (λ b f. numbers-below width count b f) (resolved s pointer _) (resolved-bytes pointer _)))
 
   -- ---- indices
 
@@ -134,7 +121,7 @@ module _ (s : Sections) (system : AllBytes (s .system)) (graphics : AllBytes (s 
   indices-at-fit width count pointer h =
       there-cond IndicesFit (eqb pointer 0) none _ tt
       (there-cond IndicesFit (eqb count 0) none _ tt
-      (there-map AllBytes IndicesFit _ (λ b f. each-to (λ (x : ℕ) (l : x < 256 ^ width). omega arith) (numbers width count b) (numbers-fit width count b f)) (resolved s pointer _) (resolved-bytes pointer _)))
+      (there-map AllBytes IndicesFit _ (λ b f. each-to (λ (x : ℕ) (l : x < 256 ^ width). omega arith) (numbers width count b) (numbers-below width count b f)) (resolved s pointer _) (resolved-bytes pointer _)))
 
   indices-fit : (b : IndexBlock) → IndicesFit (indicesOf s b)
   unfolding indicesOf sizedIndices Each

@@ -1,25 +1,22 @@
--- The test vectors of document 01 (its starred soundings) that are about single numbers, proved by one computation over the whole list.
+-- The test vectors of document 01 (its starred soundings) that are about vertices. `Vectors` of images proves them, with that of the empty hall, by one computation over the whole list.
 use mathlib.Core.Path.{_≡_}
 use mathlib.Core.Bool.{Bool, true, false, cond, _&&_}
 use mathlib.Core.List.{List, [], _∷_}
 use Prim.Native.Nat.{ℕ, _*_}
-use lib.Count.{leadingZeros}
 use lib.Dec.{T, eqb, eqb→eq}
-use lib.Ieee.{div, lt, ofInt, toBits}
 use lib.ListN.{replicate}
-use Rattle.vertices.specs.Types.{componentType, semanticOf}
-use Rattle.vertices.specs.Declaration.{positionOnly, componentsFrom, componentsOf}
-use Rattle.vertices.specs.Attribute.{allInside, attributesOf}
+use Rattle.vertices.specs.Declaration.{positionOnly}
+use Rattle.vertices.specs.Attribute.{attributesOf}
 use Rattle.vertices.specs.Unified.{verticesInside}
 use Rattle.vertices.specs.Half.{f16ToF32, f32ToF16}
-use Rattle.vertices.specs.Normalised.{signedByte, atLeast, snorm8ToF32}
+use Rattle.vertices.specs.Normalised.{snorm8ToF32}
 
 -- a conversion, what it is given, and what it must give
 pub data Row : Type 0 where
   row : (ℕ → ℕ) → ℕ → ℕ → Row
 
 -- every row gives what it must
-pub Right : List Row → Type 0
+unfoldable pub Right : List Row → Type 0
 Right [] = Unit {0}
 Right (row convert input output ∷ rows) = (convert input ≡ output) × Right rows
 
@@ -41,16 +38,16 @@ tested (row convert input output ∷ rows) t =
     (eqb→eq (convert input) output (ts .0), tested rows (ts .1))
 
 -- the check that refuses attribute `index` of two vertices of 11 bytes that have a position alone, 0 where none does
-positionRefusal : ℕ → ℕ
+unfoldable pub positionRefusal : ℕ → ℕ
 positionRefusal index = attributesOf (replicate 22 0) 11 2 (positionOnly 11) index .refusal
 
 -- the check that refuses to unify two such vertices of `stride` bytes, 0 where none does
-unifyRefusal : ℕ → ℕ
+unfoldable pub unifyRefusal : ℕ → ℕ
 unifyRefusal stride = cond (verticesInside (positionOnly stride) (2 * stride) stride 2) 0 9
 
 -- halves to floats, floats to halves, signed normalised bytes to floats; position alone, count 2, stride 11: vertex 0 reads, vertex 1 and
 -- unifying refuse 9, and stride 12 unifies
-pub vectors : List Row
+unfoldable pub vectors : List Row
 vectors =
     row f16ToF32 0x0001 0x33800000
     ∷ row f16ToF32 0x03FF 0x387FC000
@@ -69,8 +66,3 @@ vectors =
     ∷ row unifyRefusal 11 9
     ∷ row unifyRefusal 12 0
     ∷ []
-
--- Every vector is right.
-pub vectors-right : Right vectors
-unfolding vectors f16ToF32 f32ToF16 leadingZeros snorm8ToF32 signedByte atLeast div lt ofInt toBits positionRefusal unifyRefusal attributesOf verticesInside allInside componentsOf componentsFrom componentType semanticOf
-vectors-right = tested vectors tt

@@ -1,14 +1,12 @@
 -- The bytes at the places of a view are those of the geometry that it shows.
-use mathlib.Core.Path.{_≡_, sym, ap, subst, _∙_}
-use Prim.Native.Nat.{_+_, _*_}
+use mathlib.Core.Path.{sym, ap, subst, _∙_}
 use native.Mathlib.Omega.{arith}
 use borrow.Author.Needs.{needs}
 use lib.ListN.{length}
 use Rattle.sections.specs.Address.{sections}
 use Rattle.sections.specs.Edit.{overwrite}
 use Rattle.halls.specs.Reading.{verticesOf}
-use Rattle.halls.specs.Taking.{geometryShown, geometryBytes}
-use Rattle.halls.specs.View.{HeldIn, heldCount}
+use Rattle.halls.specs.View.{HeldIn}
 use Rattle.halls.proofs.TakenBytes.{shown-bytes, shown-length}
 use Rattle.halls.proofs.write_taken.write_parts.Statement.{statement}
 use Rattle.halls.proofs.write_taken.write_parts.Tie as tie

@@ -1,6 +1,5 @@
 -- Fewer than 0x98 bytes: nothing. Else the two bytes of the shader id.
 use mathlib.Core.Path.{sym, ap, _∙_}
-use mathlib.Core.Option.{some}
 use native.Mathlib.Omega.{arith}
 use borrow.Author.Needs.{needs}
 use lib.ListN.{length}

@@ -1,5 +1,4 @@
 -- The mapping, the numbers before it, and the geometries right behind it.
-use mathlib.Core.Path.{_∙_}
 use Prim.Native.Nat.{_/_}
 use native.Mathlib.Omega.{arith}
 use borrow.Author.Needs.{needs}

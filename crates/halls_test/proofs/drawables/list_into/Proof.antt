@@ -15,4 +15,5 @@ list-into-spec =
     (λ c κs. tt)
     (λ c. search needs)
     (λ c. tt)
+    (λ c κs. tt)
     (λ c. tt))

@@ -3,8 +3,8 @@ use mathlib.Core.Path.{sym}
 use borrow.Author.Needs.{needs}
 use native.Mathlib.Omega.{arith}
 use lib.Seq.{length-take-le}
-use Rattle.halls_test.proofs.calls.called_first.Statement.{statement}
-use Rattle.halls_test.proofs.calls.called_first.Tie as tie
+use Rattle.replay.proofs.calls.called_first.Statement.{statement}
+use Rattle.replay.proofs.calls.called_first.Tie as tie
 
 pub called-first-spec : {M : Type 1} → statement M
 called-first-spec =
@@ -15,4 +15,5 @@ called-first-spec =
     (λ c κs. tt)
     (λ c. search needs)
     (λ c. tt)
+    (λ c κs. tt)
     (λ c. tt))
