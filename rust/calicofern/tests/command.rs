@@ -183,9 +183,13 @@ fn halves_both_ways() {
 fn the_demo_says_what_it_wrote() {
     let folder = folder("demo");
     let text = printed(&["demo", "--out", &folder.display().to_string()]);
-    for name in ["shoebox.list", "balcony.unified", "shoebox.obj"] {
+    for name in ["shoebox.list", "balcony.unified", "shoebox.obj", "edited.system", "shoebox.svg", "edited.svg"] {
         assert!(text.contains(&path(&folder, name)) && folder.join(name).metadata().unwrap().len() > 1000, "{text}");
     }
+    assert!(
+        text.contains("382 triangles, then 332") && text.contains("check 18:") && text.contains("read back as the same hall"),
+        "{text}"
+    );
 }
 
 /// A triangle, then an edit of it.

@@ -1,11 +1,11 @@
-//! `hall demo`: a sample hall, from reading to unified vertices.
+//! `hall demo`: a sample hall, from reading to unified vertices, and through an edit to a saved drawable and back.
 
 use crate::arguments::Arguments;
 use crate::drawable::{write, Drawable};
 use crate::failure::Failure;
 use crate::table::{counted, Table};
-use crate::{list, vertices};
-use calicofern::{Sections, UnifiedVertex, Vertices, ALLOCATION_LIMIT};
+use crate::{list, show, vertices};
+use calicofern::{Hall, Refusal, Sections, UnifiedVertex, Vertices, ALLOCATION_LIMIT};
 use std::fs;
 use std::path::PathBuf;
 
@@ -40,13 +40,44 @@ pub fn run(mut arguments: Arguments) -> Result<String, Failure> {
 
     vertices::write_all_obj(&hall, &path("shoebox.obj"))?;
 
+    let mut edited = read_back(SHOEBOX)?;
+    show::draw(&edited, &path("shoebox.svg"))?;
+    text += "\nThe balcony taken out, and one index too high, as an editor might do it\n\n";
+    text += &edit(&mut edited)?;
+    let image = edited.save()?;
+    write(&path("edited.system"), &image)?;
+    let again = read_back(&image)?;
+    show::draw(&again, &path("edited.svg"))?;
+    text += &format!("saved as a drawable of {}", counted(image.len() as u64, "byte", "bytes"));
+    text += if again == edited { ", and read back as the same hall\n" } else { ", and read back as another hall\n" };
+
     let mut wrote = Table::new(&["wrote", ""], &["wrote", ""]);
     wrote.row(vec![path("shoebox.list"), format!("the list, {}", counted(hall.as_bytes().len() as u64, "byte", "bytes"))]);
     wrote.row(vec![path("balcony.unified"), format!("the balcony's unified vertices, {} bytes each", UnifiedVertex::SIZE)]);
     wrote.row(vec![path("shoebox.obj"), "the whole hall as Wavefront OBJ, to look at in any 3D viewer".to_string()]);
+    wrote.row(vec![path("edited.system"), "the edited hall as a drawable".to_string()]);
+    wrote.row(vec![path("shoebox.svg"), "plan and long section before the edit".to_string()]);
+    wrote.row(vec![path("edited.svg"), "and after it, without the balcony".to_string()]);
     text += "\n";
     text += &wrote.text();
     Ok(text)
+}
+
+/// The hall of a drawable's system section.
+fn read_back(system: &[u8]) -> Result<Hall, Refusal> {
+    Hall::from_sections(&Sections::new(system, &[]), Sections::SYSTEM)
+}
+
+/// Removes the balcony; an index beyond its geometry's vertices is refused. What each call came to.
+fn edit(hall: &mut Hall) -> Result<String, Failure> {
+    let before = hall.triangle_count();
+    hall.remove_geometry(1, 2)?;
+    let removed = format!("remove-geometry 1 2: {before} triangles, then {}\n", hall.triangle_count());
+    let refused = match hall.replace_indices(0, 0, &[0, 1, 65_535]) {
+        Err(refusal) => refusal.to_string(),
+        Ok(()) => "accepted".to_string(),
+    };
+    Ok(format!("{removed}replace-indices 0 0 0 1 65535: {refused}\n"))
 }
 
 /// Some of the fields of the first unified vertices.

@@ -35,7 +35,8 @@ hall: shows what RAGE drawables hold, and edits halls
       a float, shown as the nearest half
       --to-floats IN OUT, --to-halves IN OUT    convert whole files of little-endian numbers
   hall demo [--out FOLDER]
-      a sample hall, from reading to unified vertices; it says where it wrote them
+      a sample hall, from reading to unified vertices, and through an edit to a saved drawable and back,
+      with a drawing before and after; it says where it wrote them
   hall new HALL
       a hall without models
   hall take-in DRAWABLE --out HALL

@@ -13,13 +13,18 @@ pub fn run(mut arguments: Arguments) -> Result<String, Failure> {
     let out = path(&mut arguments, "file for the drawing")?;
     arguments.finish()?;
     let hall = read(&file)?;
-    let drawing = progress::during("drawing the hall", || Drawing::of(&hall))?;
-    write(&out, drawing.text().as_bytes())?;
-    let left_out = match drawing.left_out {
+    let left_out = match draw(&hall, &out)? {
         0 => String::new(),
         count => format!("; {count} triangles with a coordinate that is no number are left out"),
     };
     Ok(format!("wrote {out}: plan and long section of {}{left_out}\n", said(&hall)))
+}
+
+/// Writes a hall's drawing; how many triangles it leaves out.
+pub fn draw(hall: &Hall, out: &str) -> Result<usize, Failure> {
+    let drawing = progress::during("drawing the hall", || Drawing::of(hall))?;
+    write(out, drawing.text().as_bytes())?;
+    Ok(drawing.left_out)
 }
 
 /// The colours of the materials, by shader id; after the last the first again.
