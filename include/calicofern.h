@@ -5,7 +5,7 @@
    A slice is two arguments, a pointer and the number of its elements, which are bytes, or for indices uint32_t. The pointer must point to that
    many readable elements, and for an output or a hall writable ones; it is aligned for its type and never null, not even with length 0. An output,
    a hall and `size` overlap no other argument. A slice has fewer than 2^63 bytes.
-   Numbers in slices are little-endian. A float is passed as its 32 bits, a half as its 16, so that a NaN keeps sign and payload.
+   Numbers in slices of bytes are little-endian. A float is passed as its 32 bits, a half as its 16, so that a NaN keeps sign and payload.
 
    A function with an output returns 0 where it accepts, else the number of the check that failed:
       1  a section has more than 67,108,864 bytes
@@ -20,7 +20,7 @@
      10  an output of the vertex functions is too short
    or one of 11 to 24, which stand beside the functions that return them.
    It accepts: the result stands in the first bytes of the output, the bytes behind it are as they were, and *size is the length of the
-   result. It refuses: no byte of the output is changed, and *size is the length that the output needs for checks 7 and 10, else 0.
+   result. It refuses: no byte of the output is changed, and *size is the length that the output needs for checks 7, 10 and 20, else 0.
    *size is written in either case, and not read. */
 #ifndef CALICOFERN_H
 #define CALICOFERN_H
@@ -104,6 +104,12 @@ uint8_t calicofern_replace_indices(uint8_t *hall, size_t hall_length, size_t n, 
    geometry lacks its vertices or its indices. Returns 0, 1 to 6, 11 to 19 or 24. */
 uint8_t calicofern_take_in(uint8_t *hall, size_t hall_length, size_t n, const uint8_t *system, size_t system_length, const uint8_t *graphics,
                            size_t graphics_length, uint64_t va, uint64_t *size);
+
+/* The image of the hall in the first n bytes of `hall`: a drawable's system section, with its LOD header at 0x50000000 and the graphics section empty,
+   at most 67,108,864 bytes. Read there, it holds the same models and geometries. The image stands in the first *size bytes of `out`, and the
+   bytes behind it are as they were; where it refuses, no byte of `out` is changed. 20: `out` is shorter than the image, and *size is the image's length.
+   Returns 0, 11 to 20. */
+uint8_t calicofern_save(const uint8_t *hall, size_t hall_length, size_t n, uint8_t *out, size_t out_length, uint64_t *size);
 
 /* ---- Models and lists */
 

@@ -8,6 +8,7 @@ mod declared;
 mod editing;
 mod lists;
 mod runs;
+mod saving;
 mod told;
 mod unified;
 mod values;

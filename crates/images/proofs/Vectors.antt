@@ -17,13 +17,13 @@ use Rattle.vertices.proofs.Vectors.{Row, row, Right, tested, positionRefusal, u
 use Rattle.images.specs.Image.{headerBytes, filled, laid, addresses, image}
 
 -- the bytes of the empty hall's image, and the number that they say: 16 zeros
-emptyLength : ℕ → ℕ
+pub emptyLength : ℕ → ℕ
 emptyLength models = length (image [])
 
-emptyNumber : ℕ → ℕ
+pub emptyNumber : ℕ → ℕ
 emptyNumber models = le (image [])
 
-allVectors : List Row
+pub allVectors : List Row
 allVectors = row emptyLength 0 16 ∷ row emptyNumber 0 0 ∷ vectors
 
 -- Every vector is right.

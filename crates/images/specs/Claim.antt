@@ -42,7 +42,7 @@ pub record SameHall (l k : CallList) : Type 0 where
 pub record Claim : Type 0 where
   -- Every answer, n and the first n bytes equal those of the abstract state given the same calls.
   pub agrees : (l : CallList) → Agrees (l .first) (l .first) 0 0 [] (l .made)
-  -- That hall saves into every image buffer long enough.
+  -- That hall saves into every image buffer long enough. (`Saved` is what save ensures.)
   pub saves : (l : CallList) (d : List ℕ) (r : Answer) (t : List ℕ) → Saved (bufferOf l) (nOf l) d r t → length (imageOf l) ≤ length d
       → (r ≡ Accepted (length (imageOf l))) × (t ≡ overwrite d 0 (imageOf l))
   -- Its image, taken in over any hall that such a list leaves in a buffer long enough, gives the same hall.

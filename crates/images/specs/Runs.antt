@@ -47,7 +47,8 @@ abbrev pub nextN : ℕ → Answer → ℕ
 nextN n (Accepted m) = m
 nextN n (Refused r) = n
 
--- Each call got the buffer and n as the one before left them, and did what its contract says.
+-- Each call got the buffer and n as the one before left them, and did what its contract says: `Stepped` of the call is what add_model, add_geometry,
+-- remove_geometry, remove_model, set_attribute, replace_indices and take_in of halls ensure.
 unfoldable pub Ran : List ℕ → ℕ → List Made → Type 0
 Ran b n [] = Unit {0}
 Ran b n (x ∷ xs) = Fits (x .call) × Stepped (x .call) b n (x .answer) (x .left) × Ran (x .left) (nextN n (x .answer)) xs

@@ -1,8 +1,10 @@
-//! A shoebox hall, built from nothing: six surfaces and a reflector over the stage, which is then hung lower.
+//! A shoebox hall, built from nothing: six surfaces and a reflector over the stage, which is then hung lower. It is saved as a drawable's system section and
+//! read back.
 //!
-//! cargo run --example shoebox
+//! cargo run --example shoebox [-- FILE]
 
-use calicofern::{Hall, NewGeometry, Refusal, VertexAttributeValue, VertexComponentType, VertexDeclaration, VertexSemantic};
+use calicofern::{Hall, NewGeometry, Refusal, Sections, VertexAttributeValue, VertexComponentType, VertexDeclaration, VertexSemantic};
+use std::error::Error;
 
 const WIDTH: f32 = 20.0;
 const LENGTH: f32 = 32.0;
@@ -15,7 +17,7 @@ const REFLECTOR: u16 = 2;
 /// Four corners, seen from the side that reflects.
 type Quad = [[f32; 3]; 4];
 
-fn main() -> Result<(), Refusal> {
+fn main() -> Result<(), Box<dyn Error>> {
     let mut hall = Hall::new();
     hall.add_model(0, 0xFF)?;
     for (material, quad) in shell() {
@@ -32,6 +34,14 @@ fn main() -> Result<(), Refusal> {
     // a call that would break the hall is refused, and the hall stays as it was
     if let Err(refusal) = hall.replace_indices(1, 0, &[0, 1, 4]) {
         println!("refused: {refusal}");
+    }
+
+    let image = hall.save()?;
+    let back = Hall::from_sections(&Sections::new(&image, &[]), Sections::SYSTEM)?;
+    println!("saved: {} bytes; read back: {back:?}, {}", image.len(), if back == hall { "the same hall" } else { "another hall" });
+    if let Some(path) = std::env::args().nth(1) {
+        std::fs::write(&path, &image)?;
+        println!("wrote {path}");
     }
     Ok(())
 }

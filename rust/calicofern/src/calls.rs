@@ -87,6 +87,7 @@ extern "C" {
         va: u64,
         size: *mut u64,
     ) -> u8;
+    fn calicofern_save(hall: *const u8, hall_length: usize, n: usize, out: *mut u8, out_length: usize, size: *mut u64) -> u8;
     fn calicofern_triangle_count(list: *const u8, list_length: usize) -> u64;
     fn calicofern_bone_index(skeleton_binding: u32) -> u8;
     fn calicofern_is_skinned(skeleton_binding: u32) -> bool;
@@ -259,6 +260,13 @@ pub fn take_in(hall: &mut [u8], n: usize, system: &[u8], graphics: &[u8], va: u6
             &mut size,
         )
     };
+    Told { check, size }
+}
+
+pub fn save(hall: &[u8], n: usize, out: &mut [u8]) -> Told {
+    let mut size = UNWRITTEN;
+    // SAFETY: pointers and lengths of borrowed slices; `out` is an exclusive borrow and `size` a variable of this function.
+    let check = unsafe { calicofern_save(hall.as_ptr(), hall.len(), n, out.as_mut_ptr(), out.len(), &mut size) };
     Told { check, size }
 }
 

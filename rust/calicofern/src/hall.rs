@@ -1,6 +1,7 @@
 //! A hall that can be edited.
 
 use crate::calls::{self, Given, Told};
+use crate::lend::{lend, ALLOCATION_LIMIT};
 use crate::{
     hall_check, DrawableGeometry, DrawableModel, Models, Place, Refusal, Sections, UnifiedVertex, VertexAttribute, VertexAttributeValue,
     VertexDeclaration, VertexSemantic,
@@ -249,6 +250,32 @@ impl Hall {
     pub fn take_in(&mut self, sections: &Sections<'_>, at: u64) -> Result<(), Refusal> {
         let done = self.edit(|hall, n| calls::take_in(hall, n, sections.system, sections.graphics, at));
         done.map_err(|refusal| refusal.saying(11, "a geometry lacks its vertices or its indices: in a hall each has both"))
+    }
+
+    /// The hall as a drawable's system section, its LOD header at [`Sections::SYSTEM`] and the graphics section empty. Taken in from there, it is the same
+    /// hall again.
+    ///
+    /// Refused by check 20 only where that much memory, at most 64 MiB, cannot be had.
+    ///
+    /// ```
+    /// use calicofern::{Hall, Sections};
+    /// # let system = std::fs::read(concat!(env!("CARGO_MANIFEST_DIR"), "/../../samples/shoebox.system")).unwrap();
+    /// let hall = Hall::from_sections(&Sections::new(&system, &[]), Sections::SYSTEM)?;
+    /// let image = hall.save()?;
+    /// assert_eq!(Hall::from_sections(&Sections::new(&image, &[]), Sections::SYSTEM)?, hall);
+    /// assert_eq!(Hall::new().save()?, [0; 16]);
+    /// # Ok::<(), calicofern::Refusal>(())
+    /// ```
+    pub fn save(&self) -> Result<Vec<u8>, Refusal> {
+        lend(ALLOCATION_LIMIT, |out| self.save_into(out))
+    }
+
+    /// The same into the first bytes of a lent buffer, and how many they are. The bytes behind them are left as they were.
+    ///
+    /// Refused by check 20, with the bytes needed, where the buffer is too short.
+    pub fn save_into(&self, out: &mut [u8]) -> Result<usize, Refusal> {
+        let lent = out.len();
+        Refusal::told(calls::save(&self.buffer, self.n, out), lent)
     }
 
     /// One call of the library. Where the buffer is too short, it is made longer and the call is tried again; so check 24 is seen only where that much memory

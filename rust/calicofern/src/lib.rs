@@ -29,6 +29,7 @@
 //! | list the models and geometries of a drawable | [`Sections::hall_list`], [`HallList::models`] |
 //! | check that a list is a hall, so that it may be edited and saved | [`hall_check`] |
 //! | build a hall, or edit one | [`Hall`] |
+//! | save a hall as a drawable | [`Hall::save`] |
 //! | see where its counts disagree | [`DrawableGeometry::disagreements`], [`DrawableModel::disagreements`] |
 //! | read vertices as they are stored, or in one form | [`Vertices::read_vertex_attributes`], [`Vertices::to_unified_vertices`] |
 //! | find a vertex buffer by its address | [`Sections::vertex_buffer_at`] |

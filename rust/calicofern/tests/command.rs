@@ -116,6 +116,8 @@ fn wrong_usage_is_one_line_and_status_2() {
         &["take-in", "samples/shoebox"],
         &["check", "samples/nothing"],
         &["edit", "samples/shoebox.system"],
+        &["save"],
+        &["show"],
     ] {
         let (status, said) = failed(words);
         assert_eq!((status, said.starts_with("hall: ")), (2, true), "{words:?}: {said}");
@@ -245,9 +247,39 @@ fn drawables_are_taken_in() {
 }
 
 #[test]
+fn a_hall_is_saved_and_taken_in_again() {
+    let folder = folder("save");
+    let (file, name, again) = (path(&folder, "shoebox.hall"), path(&folder, "saved"), path(&folder, "again.hall"));
+    printed(&["take-in", "samples/shoebox", "--out", &file]);
+    let system = format!("{name}.system");
+    let text = printed(&["save", &file, &system]);
+    assert_eq!(text, format!("wrote {system}: 17,648 bytes of system section, to be read at 0x50000000\n"));
+    printed(&["take-in", &name, "--out", &again]);
+    assert_eq!(std::fs::read(&file).unwrap(), std::fs::read(&again).unwrap());
+    assert!(printed(&["list", &name]).ends_with("\n2 models, 7 geometries, 382 triangles\nall counts agree\n"));
+    let (status, said) = failed(&["save", "samples/shoebox.system", &system]);
+    assert_eq!((status, said.starts_with("hall: check 11: ")), (1, true), "{said}");
+}
+
+#[test]
+fn a_hall_is_drawn() {
+    let folder = folder("show");
+    let (file, drawing) = (path(&folder, "shoebox.hall"), path(&folder, "shoebox.svg"));
+    printed(&["take-in", "samples/shoebox", "--out", &file]);
+    let text = printed(&["show", &file, &drawing]);
+    assert!(text.starts_with(&format!("wrote {drawing}: plan and long section of 2 models, 7 geometries, 382 triangles, ")), "{text}");
+    let drawn = std::fs::read_to_string(&drawing).unwrap();
+    for shader in 0..5 {
+        assert!(drawn.contains(&format!("id=\"plan-{shader}\"")) && drawn.contains(&format!("id=\"long-section-{shader}\"")));
+    }
+    assert_eq!(drawn.matches('Z').count(), 2 * 382);
+    assert!(drawn.starts_with("<svg ") && drawn.ends_with("</svg>\n"));
+}
+
+#[test]
 fn help_and_version() {
     let help = printed(&["--help"]);
-    for command in ["list", "vertices", "halves", "demo", "new", "take-in", "check", "edit"] {
+    for command in ["list", "vertices", "halves", "demo", "new", "take-in", "check", "edit", "save", "show"] {
         assert!(help.contains(&format!("\n  hall {command} ")), "{help}");
     }
     assert_eq!(printed(&["list", "--help"]), help);

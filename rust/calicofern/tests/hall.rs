@@ -325,3 +325,55 @@ fn many_small_edits_need_no_room_of_the_caller() {
     assert_eq!(hall.geometry(0, 0).unwrap().shader_id, 299);
     assert_eq!(Hall::from_list(hall.list().to_vec()).unwrap(), hall);
 }
+
+/// What is saved and taken in again.
+fn saved(hall: &Hall) -> Hall {
+    let image = hall.save().unwrap();
+    assert!(image.len() % 16 == 0);
+    Hall::from_sections(&Sections::new(&image, &[]), Sections::SYSTEM).unwrap()
+}
+
+#[test]
+fn images_have_their_lengths_and_places() {
+    assert_eq!(Hall::new().save().unwrap(), [0; 16]);
+    let image = one_triangle().save().unwrap();
+    assert_eq!(image.len(), 576);
+    // the vertices' data at 0x1A0
+    assert_eq!(image[0x1A0..0x1A0 + 36], bytes(&[0.0, 0.0, 0.0, 1.0, 0.0, 0.0, 0.0, 1.0, 0.0]));
+    let list = Sections::new(&image, &[]).hall_list(Sections::SYSTEM).unwrap();
+    assert_eq!(list.as_bytes(), one_triangle().list());
+}
+
+#[test]
+fn a_lent_image_is_long_enough_or_untouched() {
+    let hall = one_triangle();
+    let mut out = [7; 600];
+    let refusal = hall.save_into(&mut out[..575]).unwrap_err();
+    assert_eq!((refusal.check(), refusal.needed(), refusal.lent()), (20, Some(576), Some(575)));
+    assert_eq!(refusal.to_string(), "check 20: the buffer for the image is too short: 576 bytes are needed, 575 were lent");
+    assert_eq!(out, [7; 600]);
+    assert_eq!(hall.save_into(&mut out), Ok(576));
+    assert_eq!(out[..576], hall.save().unwrap());
+    assert_eq!(out[576..], [7; 24]);
+}
+
+#[test]
+fn halls_come_back_from_their_images() {
+    for hall in [Hall::new(), one_triangle(), every_type(), sample("shoebox"), sample("layouts")] {
+        assert_eq!(saved(&hall), hall);
+    }
+}
+
+#[test]
+fn an_image_is_the_hall_as_it_is_now() {
+    let mut hall = sample("shoebox");
+    let first = hall.save().unwrap();
+    let value = VertexAttributeValue::Float3([1.0, 2.0, 3.0]);
+    hall.set_attribute(1, 2, 0, VertexSemantic::Position, value).unwrap();
+    let second = hall.save().unwrap();
+    assert_ne!(first, second);
+    assert_eq!(saved(&hall).attributes(1, 2, 0).unwrap()[0].value, value);
+    hall.add_model(1, 2).unwrap();
+    hall.remove_model(0).unwrap();
+    assert_eq!(saved(&hall), hall);
+}

@@ -60,3 +60,14 @@ pub fn take_in(mut arguments: Arguments) -> Result<String, Failure> {
     let hall = progress::during("taking in the drawable", || Hall::from_sections(&sections, drawable.at))?;
     written(&hall, &file)
 }
+
+/// `hall save`: a hall as a drawable's system section.
+pub fn save(mut arguments: Arguments) -> Result<String, Failure> {
+    let file = path(&mut arguments, "hall")?;
+    let out = path(&mut arguments, "file for the system section")?;
+    arguments.finish()?;
+    let hall = read(&file)?;
+    let image = progress::during("saving the hall", || hall.save())?;
+    write(&out, &image)?;
+    Ok(format!("wrote {out}: {} of system section, to be read at {:#x}\n", counted(image.len() as u64, "byte", "bytes"), Sections::SYSTEM))
+}

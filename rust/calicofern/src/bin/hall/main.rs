@@ -10,6 +10,7 @@ mod list;
 mod obj;
 mod progress;
 mod script;
+mod show;
 mod table;
 mod vertices;
 
@@ -44,6 +45,10 @@ hall: shows what RAGE drawables hold, and edits halls
   hall edit HALL SCRIPT [--out FILE]
       do the calls of a script, one a line; HALL is written anew, or FILE with --out. Where a line fails,
       the others have no effect either
+  hall save HALL FILE
+      a hall as a drawable: FILE is its system section, to be read at 0x50000000, and it has no other
+  hall show HALL FILE
+      a hall as an SVG drawing: its plan and its long section, a colour for each shader id
   hall --help, hall --version
 
 DRAWABLE is NAME, for the section files NAME.system and NAME.graphics (which may be missing), or
@@ -102,6 +107,8 @@ fn run(words: Vec<String>) -> Result<String, Failure> {
         "take-in" => halls::take_in(arguments),
         "check" => halls::check(arguments),
         "edit" => script::run(arguments),
+        "save" => halls::save(arguments),
+        "show" => show::run(arguments),
         "--help" | "-h" | "help" => Ok(HELP.to_string()),
         "--version" | "-V" => Ok(format!("hall {}\n", env!("CARGO_PKG_VERSION"))),
         other => Err(Failure::Usage(format!("there is no command '{other}'; 'hall --help' lists them"))),
