@@ -1,9 +1,12 @@
-//! Lists of calls, made at random from a seed: the library beside the hall book of `book.rs`. After each call are compared its answer, n and the whole buffer.
+//! Lists of calls, made at random from a seed: the library beside the hall book of `book.rs`. After each call are compared its answer, n and the whole buffer;
+//! of save its answer and the whole image buffer. The original reads each image that the library saved, and must give the hall's list.
 use std::fmt;
 
-use library::drawables::{damaged, drawable, Drawable};
+use library::drawables::{damaged, drawable, Drawable, SYSTEM};
 use library::numbers::Random;
-use library::{add_geometry, add_model, hall_check, remove_geometry, remove_model, replace_indices, set_attribute, take_in, Told};
+use library::{add_geometry, add_model, hall_check, remove_geometry, remove_model, replace_indices, save, set_attribute, take_in, Told};
+
+use oracle::list::written;
 
 use crate::book::{self, Answer, Book, Declaration, Given, Value, LIMIT};
 use crate::sound::{self, Maker};
@@ -101,6 +104,10 @@ struct Tally {
     still_sound: u64,
     greatest: usize,
     bytes: u64,
+    saved: u64,
+    not_saved: [u64; 25],
+    image_bytes: u64,
+    longest_image: usize,
 }
 
 impl fmt::Display for Tally {
@@ -112,9 +119,14 @@ impl fmt::Display for Tally {
             }
             write!(formatter, "; ")?;
         }
+        write!(formatter, "save {} accepted", self.saved)?;
+        for (number, count) in self.not_saved.iter().enumerate().filter(|(_, count)| **count > 0) {
+            write!(formatter, ", {count} by {number}")?;
+        }
+        write!(formatter, "; {} bytes of images, each read by the original, the longest {}; ", self.image_bytes, self.longest_image)?;
         write!(
             formatter,
-            "of these {} on a hall changed by hand, {} of them still sound; {} bytes of halls compared, the longest hall {}",
+            "of the calls {} on a hall changed by hand, {} of them still sound; {} bytes of halls compared, the longest hall {}",
             self.changed, self.still_sound, self.bytes, self.greatest
         )
     }
@@ -183,6 +195,48 @@ impl Hall {
     }
 }
 
+/// Saves the hall into a buffer of this length, filled with a pattern; the image.
+fn compare_save(hall: &Hall, held: &Result<Book, u8>, room: usize, tally: &mut Tally) -> Result<Option<Vec<u8>>, String> {
+    let (answer, image) = match held {
+        Ok(book) => book.save(room),
+        Err(check) => (Answer { check: *check, size: 0 }, Vec::new()),
+    };
+    let first: Vec<u8> = (0..room).map(|place| (place * 7 + 1) as u8).collect();
+    let mut out = first.clone();
+    let told = save(&hall.buffer, hall.n, &mut out);
+    if told != (Told { check: answer.check, size: answer.size }) {
+        return Err(format!("save answers {told:?}, the book {answer:?}; image buffer {room}"));
+    }
+    if out[..image.len()] != image || out[image.len()..] != first[image.len()..] {
+        let place = out.iter().zip(image.iter().chain(&first[image.len()..])).position(|(here, there)| here != there);
+        return Err(format!("save answers {answer:?}: the image buffers differ from byte {place:?}"));
+    }
+    if answer.check > 0 {
+        tally.not_saved[answer.check as usize] += 1;
+        return Ok(None);
+    }
+    out.truncate(told.size as usize);
+    match oracle::models(&out, &[], SYSTEM) {
+        Ok(lod) if written(&lod.models) == hall.buffer[..hall.n] => {}
+        Ok(_) => return Err("the original reads another list from the image".to_owned()),
+        Err(check) => return Err(format!("the original refuses the image with {check}")),
+    }
+    tally.saved += 1;
+    tally.image_bytes += told.size;
+    tally.longest_image = tally.longest_image.max(out.len());
+    Ok(Some(out))
+}
+
+/// A length of the image buffer: mostly exact or one short.
+fn image_room(random: &mut Random, needed: usize) -> usize {
+    match random.below(6) {
+        0..=2 => needed,
+        3 => needed - 1,
+        4 => random.below(needed),
+        _ => needed + random.between(1, 70),
+    }
+}
+
 pub fn generated(seed: u64, count: u64) -> String {
     let mut tally = Tally::default();
     let mut calls = 0;
@@ -196,7 +250,7 @@ pub fn generated(seed: u64, count: u64) -> String {
 fn list(seed: u64, number: u64, tally: &mut Tally) -> usize {
     let random = &mut Random::new(seed.wrapping_mul(0x1_0000_0003).wrapping_add(number) ^ 0x4C49_5354);
     random.next();
-    let crowded = random.below(4000) == 0;
+    let crowded = number % 500 == 499;
     let length = if crowded { random.between(2, 8) } else { random.between(1, LONGEST) };
     // a buffer of one length for the whole list, or one that is as tight as each call needs it
     let tight = random.percent(60);
@@ -232,8 +286,13 @@ fn list(seed: u64, number: u64, tally: &mut Tally) -> usize {
         if !tight && (hall.buffer[hall.n..greatest].iter().any(|byte| *byte != 0) || hall.buffer[greatest..] != first[greatest..]) {
             report("the bytes behind the hall".to_owned());
         }
-        if random.percent(10) && hall.n < 50_000 {
-            images.push(hall.book.image());
+        if random.percent(if crowded { 100 } else { 25 }) {
+            let room = image_room(random, hall.book.image().len());
+            match compare_save(&hall, &Ok(hall.book.clone()), room, tally) {
+                Ok(Some(image)) if image.len() < 50_000 => images.push(image),
+                Ok(_) => {}
+                Err(what) => report(what),
+            }
         }
     }
     length
@@ -276,6 +335,8 @@ fn by_hand(random: &mut Random, hall: &Hall, call: &Call, tally: &mut Tally) -> 
         return Err(format!("hall_check is not {check} of {:?}", &copy.buffer[..copy.n]));
     }
     let bytes = copy.buffer.clone();
+    let room = image_room(random, held.as_ref().map_or(100, |book| book.image().len()));
+    compare_save(&copy, &held, room, tally)?;
     let judged = match held {
         Ok(held) => {
             tally.still_sound += 1;
@@ -367,7 +428,7 @@ fn any_attribute(random: &mut Random, book: &Book) -> Call {
 fn any_drawable(random: &mut Random, images: &[Vec<u8>]) -> Drawable {
     let saved = |random: &mut Random| {
         let place = random.below(images.len());
-        Drawable { system: images[place].clone(), graphics: Vec::new(), va: library::drawables::SYSTEM }
+        Drawable { system: images[place].clone(), graphics: Vec::new(), va: SYSTEM }
     };
     match random.below(10) {
         0 | 1 => drawable(random.next(), 0).1,
@@ -418,7 +479,7 @@ pub fn limits(seed: u64) -> String {
     over.indices.extend([0; 24]);
     let over = Maker::new(random).repeated(&large, times, &over);
     let mut hall = Hall::new(Vec::new());
-    let mut calls = 0;
+    let (mut calls, mut saves) = (0, Tally::default());
     let mut make = |hall: &mut Hall, call: Call, wanted: u8| {
         let judged = call.in_book(&hall.book);
         let needed = judged.as_ref().map_or(hall.n, |result| result.length() as usize).max(hall.n);
@@ -432,6 +493,9 @@ pub fn limits(seed: u64) -> String {
     make(&mut hall, Call::TakeIn(over), 19);
     make(&mut hall, Call::TakeIn(full), 0);
     assert_eq!(hall.book.image().len() as u64, LIMIT);
+    for room in [LIMIT as usize, LIMIT as usize - 1] {
+        compare_save(&hall, &Ok(hall.book.clone()), room, &mut saves).unwrap_or_else(|what| panic!("at the greatest image: {what}"));
+    }
     make(&mut hall, Call::AddModel { binding: 0, mask: 0 }, 19);
     make(&mut hall, Call::AddGeometry(least.clone()), 19);
     let mut longer = last.indices.clone();
@@ -445,5 +509,9 @@ pub fn limits(seed: u64) -> String {
     make(&mut hall, Call::AddGeometry(large), 19);
     make(&mut hall, Call::AddGeometry(least), 0);
     make(&mut hall, Call::RemoveModel { model: 0 }, 0);
+    tally.saved = saves.saved;
+    tally.not_saved = saves.not_saved;
+    tally.image_bytes = saves.image_bytes;
+    tally.longest_image = saves.longest_image;
     format!("{calls} calls about an image of {LIMIT} bytes: {tally}")
 }
