@@ -1,9 +1,11 @@
-//! The calls that edit a hall, beside the hall check and the plain moving of the bytes that move.
+//! The calls that edit a hall, beside the hall check and the plain moving of the bytes that move; save, beside the check and a copy of the image.
 use std::hint::black_box;
 use std::ops::Range;
 
 use library::drawables::Drawable;
-use library::{add_geometry, add_model, hall_check, remove_geometry, remove_model, replace_indices, set_attribute, take_in, Given, Told};
+use library::{
+    add_geometry, add_model, hall_check, remove_geometry, remove_model, replace_indices, save, set_attribute, take_in, Given, Told,
+};
 
 use crate::checks::hall;
 use crate::{drawable, now, Bench, Times};
@@ -19,9 +21,7 @@ pub fn bench_edits(bench: &Bench) {
         );
         println!("|---|---|---|---|---|---|---|---|");
     }
-    for (size, models, geometries, vertices, triangles) in
-        [("small", 4, 4, 300, 1_280), ("large", 4, 4, 60_000, 327_680), ("crowded", 64, 255, 3, 1)]
-    {
+    for (size, models, geometries, vertices, triangles) in SIZES {
         if NAMES.iter().all(|name| bench.leaves_out(&format!("{name}, {size}"))) {
             continue;
         }
@@ -33,6 +33,10 @@ pub fn bench_edits(bench: &Bench) {
         bench_take_in(bench, &format!("take in, {size}"), &drawable(vertices, 2));
     }
 }
+
+/// Models, geometries of each, vertices and triangles of each geometry.
+const SIZES: [(&str, usize, usize, usize, usize); 3] =
+    [("small", 4, 4, 300, 1_280), ("large", 4, 4, 60_000, 327_680), ("crowded", 64, 255, 3, 1)];
 
 const NAMES: [&str; 11] = [
     "add model",
@@ -47,6 +51,63 @@ const NAMES: [&str; 11] = [
     "replace indices, first",
     "replace indices, last",
 ];
+
+pub fn bench_saves(bench: &Bench) {
+    if bench.rounds > 0 {
+        println!();
+        println!(
+            "| work | hall bytes | image bytes | Rattle ms | check ms | memcpy ms | without the check, of memcpy: least, median | goal |"
+        );
+        println!("|---|---|---|---|---|---|---|---|");
+    }
+    for (size, models, geometries, vertices, triangles) in SIZES {
+        let name = format!("save, {size}");
+        if !bench.leaves_out(&name) {
+            bench_save(bench, &name, &hall(models, geometries, vertices, triangles).list);
+        }
+    }
+    for (size, vertices) in [("small", 4_000), ("large", 480_000)] {
+        let name = format!("save, {size}, vertices of 52 bytes");
+        if !bench.leaves_out(&name) {
+            let Drawable { system, graphics, va } = drawable(vertices, 2);
+            let size = take_in(&mut [], 0, &system, &graphics, va).size;
+            let mut list = vec![0; size as usize];
+            assert_eq!(take_in(&mut list, 0, &system, &graphics, va), Told { check: 0, size });
+            bench_save(bench, &name, &list);
+        }
+    }
+}
+
+/// The greatest ratio to `memcpy` that is wanted of save without its check.
+const SAVE_GOAL: f64 = 1.3;
+
+fn bench_save(bench: &Bench, name: &str, list: &[u8]) {
+    let n = list.len();
+    let size = save(list, n, &mut []).size as usize;
+    let (mut image, mut copy) = (vec![1; size], vec![1; size]);
+    assert_eq!(save(list, n, &mut image), Told { check: 0, size: size as u64 });
+    if bench.rounds == 0 {
+        return;
+    }
+    let expected = image.clone();
+    let mut call = || {
+        black_box(save(black_box(list), n, &mut image));
+    };
+    let mut check = || {
+        black_box(hall_check(black_box(list)));
+    };
+    let mut memcpy = || black_box(&mut copy).copy_from_slice(black_box(&expected));
+    let [here, check, memcpy] = bench.times(&mut [&mut call, &mut check, &mut memcpy]);
+    let found = (here.least - check.least) / memcpy.least;
+    println!(
+        "| {name} | {n} | {size} | {:.4} | {:.4} | {:.4} | {found:.2}, {:.2} | {SAVE_GOAL}: {} |",
+        here.least,
+        check.least,
+        memcpy.least,
+        (here.median - check.median) / memcpy.median,
+        if found <= SAVE_GOAL { "met" } else { "missed" }
+    );
+}
 
 /// Where a list's parts stand.
 struct Parts {

@@ -51,6 +51,7 @@ fn main() {
     }
     checks::bench_checks(&bench);
     edits::bench_edits(&bench);
+    edits::bench_saves(&bench);
 }
 
 /// Names, flags and types.

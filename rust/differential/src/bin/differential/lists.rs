@@ -250,8 +250,9 @@ pub fn generated(seed: u64, count: u64) -> String {
 fn list(seed: u64, number: u64, tally: &mut Tally) -> usize {
     let random = &mut Random::new(seed.wrapping_mul(0x1_0000_0003).wrapping_add(number) ^ 0x4C49_5354);
     random.next();
-    let crowded = number % 500 == 499;
-    let length = if crowded { random.between(2, 8) } else { random.between(1, LONGEST) };
+    // the first lists, and some later, start with about as many models or geometries as a hall may have
+    let crowded = number < 12 || number % 500 == 499;
+    let length = if crowded { random.between(3, 8) } else { random.between(1, LONGEST) };
     // a buffer of one length for the whole list, or one that is as tight as each call needs it
     let tight = random.percent(60);
     let room = if tight { 0 } else { random.pick(&[0, 11, 300, 3_000, 10_000, 30_000, 100_000]) };
@@ -261,7 +262,12 @@ fn list(seed: u64, number: u64, tally: &mut Tally) -> usize {
     let (mut log, mut images, mut greatest) = (Vec::new(), Vec::new(), 0);
     for place in 0..length {
         let call = match place {
-            0 if crowded => Call::TakeIn(Maker::new(random).crowded()),
+            0 if crowded => {
+                let which = if number < 12 { number as usize } else { random.below(12) };
+                Call::TakeIn(Maker::new(random).crowded(which))
+            }
+            1 if crowded => Call::AddModel { binding: random.next() as u32, mask: 1 },
+            2 if crowded => Call::AddGeometry(sound::geometry(random)),
             _ => any_call(random, &hall.book, &images),
         };
         log.push(call.clone());
@@ -475,8 +481,11 @@ pub fn limits(seed: u64) -> String {
     let held = (3 + missing as usize / 2) / 3 * 3;
     let last = geometry(random, 3, held);
     let full = Maker::new(random).repeated(&large, times, &last);
+    // the fewest indices more that make the image longer, by 16 bytes
+    let more = [3, 6, 9].into_iter().find(|more| (2 * (held + more)).div_ceil(16) > (2 * held).div_ceil(16)).unwrap();
     let mut over = last.clone();
-    over.indices.extend([0; 24]);
+    over.indices.extend(vec![0; more]);
+    let longer = over.indices.clone();
     let over = Maker::new(random).repeated(&large, times, &over);
     let mut hall = Hall::new(Vec::new());
     let (mut calls, mut saves) = (0, Tally::default());
@@ -498,8 +507,6 @@ pub fn limits(seed: u64) -> String {
     }
     make(&mut hall, Call::AddModel { binding: 0, mask: 0 }, 19);
     make(&mut hall, Call::AddGeometry(least.clone()), 19);
-    let mut longer = last.indices.clone();
-    longer.extend([0; 24]);
     make(&mut hall, Call::ReplaceIndices { model: 0, geometry: times as u64, indices: longer }, 19);
     make(&mut hall, Call::ReplaceIndices { model: 0, geometry: times as u64, indices: last.indices.clone() }, 0);
     make(&mut hall, Call::SetAttribute { place: [0, 0, 65_534, 0], shape: 3, value: [1, 2, 3, 0] }, 0);

@@ -245,14 +245,9 @@ impl<'a> Maker<'a> {
         self.block(0x60, &[(0x08, held, 4), (0x0C, width as u64, 2), (0x10, first, 8), (0x18, data, 8)])
     }
 
-    /// Models and geometries about as many as a hall may have, all of one block.
-    pub fn crowded(mut self) -> Drawable {
-        let mut given = geometry(self.random);
-        while given.bytes.len() + given.indices.len() > 400 {
-            given = geometry(self.random);
-        }
-        let geometry = self.geometry_of(&given);
-        let (models, each) = self.random.pick(&[
+    /// Models and geometries about as many as a hall may have, all of one block; one of twelve cases.
+    pub fn crowded(mut self, which: usize) -> Drawable {
+        const CASES: [(usize, usize); 12] = [
             (255, 0),
             (255, 1),
             (256, 0),
@@ -265,7 +260,14 @@ impl<'a> Maker<'a> {
             (256, 64),
             (257, 64),
             (128, 128),
-        ]);
+        ];
+        let mut given = geometry(self.random);
+        while given.bytes.len() + given.indices.len() > 400 {
+            given = geometry(self.random);
+        }
+        self.faults = 0;
+        let geometry = self.geometry_of(&given);
+        let (models, each) = CASES[which % CASES.len()];
         let model = self.model_of(&vec![geometry; each]);
         let list = self.pointers(&vec![model; models]);
         self.header(list, models)
