@@ -5,8 +5,9 @@
        robust guard SEED CALLS    each buffer flush with a page that cannot be touched, behind it or before it
        robust stack SEED CALLS    as guard, on a painted stack, of which it says how much was used
 
-   After each call: inputs as they were; *size written; after a refusal the output as it was; after an acceptance the bytes behind the result, and in
-   guard mode those around the buffer, as they were. It ends with a line of figures, or by a signal or abort(). */
+   After each call: inputs as they were; *size written; after a refusal the output or the hall as it was; after an acceptance the bytes behind the result,
+   and in guard mode those around the buffer, as they were. An edited hall passes the check, and its freed bytes are zero; a saved one is read back as it
+   was. It ends with a line of figures, or by a signal or abort(). */
 #define _GNU_SOURCE
 #include <pthread.h>
 #include <stdbool.h>
@@ -237,7 +238,7 @@ static uint8_t *lend_output(size_t length)
     return out;
 }
 
-static uint64_t accepted, refused[16], result_bytes;
+static uint64_t accepted, refused[21], result_bytes;
 
 /* Looks at the output, gives it back, and returns the size. */
 static uint64_t told(uint8_t check)
@@ -245,10 +246,11 @@ static uint64_t told(uint8_t check)
     struct area *out = &areas[OUTPUT];
     uint64_t size = *size_out;
     require(size != UNWRITTEN, "size was not written");
-    require(check <= 10, "no such check");
+    require(check <= 20, "no such check");
     require(check != 0 || size <= out->length, "accepted with a size above the output's length");
-    require((check != 7 && check != 10) || size > out->length, "7 or 10 though the output was long enough");
-    require(check == 0 || check == 7 || check == 10 || size == 0, "a refusal with a size");
+    bool short_output = check == 7 || check == 10 || check == 20;
+    require(!short_output || size > out->length, "7, 10 or 20 though the output was long enough");
+    require(check == 0 || short_output || size == 0, "a refusal with a size");
     for (size_t i = check ? 0 : size; i < out->length; i++)
         require(out->bytes[i] == FILL, "a byte of the output was written that must not be");
     if (check)
@@ -372,6 +374,155 @@ static unsigned call_lists(void)
     return 3;
 }
 
+/* ---- calls that edit a hall */
+
+static uint8_t before[MOST];
+
+/* How often each number was given. */
+static uint64_t edits[25];
+
+/* A buffer with a hall, at times a damaged one, in its first bytes; their number. */
+static size_t any_hall_before(size_t *length)
+{
+    any_hall();
+    size_t n = source_lengths[0];
+    if (n && next() % 16 == 0)
+        sources[0][below(n)] ^= 1u << (next() % 8);
+    *length = n + below(next() % 4 ? 3000 : 60);
+    memcpy(before, sources[0], n);
+    for (size_t i = n; i < *length; i++)
+        before[i] = (uint8_t)next();
+    return n;
+}
+
+static uint8_t *lend_hall(size_t length)
+{
+    uint8_t *hall = lend_output(length);
+    memcpy(hall, before, length);
+    return hall;
+}
+
+/* Looks at the buffer after a call on the hall of its first n bytes, and gives it back. */
+static void edited(uint8_t check, size_t n)
+{
+    struct area *hall = &areas[OUTPUT];
+    uint64_t size = *size_out;
+    require(size != UNWRITTEN, "size was not written");
+    require(check <= 6 || (check >= 11 && check <= 24 && check != 20), "no such check of an edit");
+    if (check) {
+        require(check == 24 ? size > hall->length : size == 0, "the size of a refused edit");
+        require(memcmp(hall->bytes, before, hall->length) == 0, "a refused edit changed the hall");
+    } else {
+        require(size <= hall->length && n <= hall->length, "accepted beyond the buffer");
+        require(calicofern_hall_check(hall->bytes, hall->length, size) == 0, "an edit made a list that is no hall");
+        for (size_t i = size; i < n; i++)
+            require(hall->bytes[i] == 0, "a freed byte is not zero");
+        size_t end = size > n ? size : n;
+        require(memcmp(hall->bytes + end, before + end, hall->length - end) == 0, "a byte beyond the hall was written");
+    }
+    edits[check]++;
+    give_back(OUTPUT);
+    give_back(SIZE);
+}
+
+/* Indices below `end`, at times one that is not, as the second input. */
+static const uint32_t *any_indices(size_t end, size_t *count)
+{
+    *count = next() % 8 ? 3 * (1 + below(40)) : below(5);
+    source_lengths[1] = 4 * *count;
+    for (size_t i = 0; i < *count; i++)
+        put(sources[1] + 4 * i, below(end + (next() % 4096 == 0)), 4);
+    return (const uint32_t *)(const void *)lend_input(SECOND);
+}
+
+static unsigned call_edit(void)
+{
+    size_t length, n = any_hall_before(&length), count;
+    unsigned which = next() % 7;
+    uint64_t model = next() % 16 ? below(4) : next(), geometry = next() % 16 ? below(3) : next();
+    if (next() % 64 == 0)
+        n = below(length + 20);
+    switch (which) {
+    case 0: {
+        uint8_t *hall = lend_hall(length);
+        edited(calicofern_add_model(hall, length, n, (uint32_t)next(), (uint16_t)next(), size_out), n);
+        break;
+    }
+    case 1: {
+        uint16_t stride = (uint16_t)(12 + 4 * below(6));
+        uint32_t vertices = (uint32_t)below(30), flags = 1u | (next() % 2 ? 1u << below(16) : 0);
+        random_bytes(0, stride * vertices + (next() % 16 == 0));
+        const uint8_t *content = lend_input(FIRST);
+        const uint32_t *indices = any_indices(vertices ? vertices : 1, &count);
+        uint8_t *hall = lend_hall(length);
+        uint16_t declared = (uint16_t)(stride + (next() % 16 == 0));
+        uint64_t types = (next() & ~(uint64_t)15) | (next() % 16 ? 6 : next() % 16);
+        edited(calicofern_add_geometry(hall, length, n, (uint16_t)next(), flags, declared, (uint8_t)next(), (uint8_t)next(), types, stride, vertices,
+                                       content, source_lengths[0], indices, count, size_out), n);
+        give_back_input(FIRST);
+        give_back_input(SECOND);
+        break;
+    }
+    case 2: {
+        uint8_t *hall = lend_hall(length);
+        edited(calicofern_remove_geometry(hall, length, n, model, geometry, size_out), n);
+        break;
+    }
+    case 3: {
+        uint8_t *hall = lend_hall(length);
+        edited(calicofern_remove_model(hall, length, n, model, size_out), n);
+        break;
+    }
+    case 4: {
+        uint8_t *hall = lend_hall(length);
+        uint64_t semantic = next() % 4 ? 0 : next() % 20;
+        uint8_t shape = (uint8_t)(next() % 4 ? 3 : next() % 8);
+        edited(calicofern_set_attribute(hall, length, n, model, geometry, below(31), semantic, shape, (uint32_t)next(), (uint32_t)next(),
+                                        (uint32_t)next(), (uint32_t)next(), size_out), n);
+        break;
+    }
+    case 5: {
+        const uint32_t *indices = any_indices(1 + below(10), &count);
+        uint8_t *hall = lend_hall(length);
+        edited(calicofern_replace_indices(hall, length, n, model, geometry, indices, count, size_out), n);
+        give_back_input(SECOND);
+        break;
+    }
+    default: {
+        uint64_t va = any_sections();
+        const uint8_t *s = lend_input(FIRST), *g = lend_input(SECOND);
+        uint8_t *hall = lend_hall(length);
+        edited(calicofern_take_in(hall, length, n, s, source_lengths[0], g, source_lengths[1], va, size_out), n);
+        give_back_input(FIRST);
+        give_back_input(SECOND);
+    }
+    }
+    return 1;
+}
+
+/* Saves a hall. Read back, the image is the list that was saved. */
+static unsigned call_save(void)
+{
+    size_t length, n = any_hall_before(&length);
+    source_lengths[0] = length;
+    memcpy(sources[0], before, length);
+    const uint8_t *hall = lend_input(FIRST);
+    uint8_t *none = lend_output(0);
+    uint64_t needed = told(calicofern_save(hall, length, n, none, 0, size_out));
+    size_t room_for = room(needed);
+    uint8_t *out = lend_output(room_for);
+    uint8_t check = calicofern_save(hall, length, n, out, room_for, size_out);
+    if (check == 0) {
+        static uint8_t list[MOST];
+        uint64_t read = 0;
+        require(calicofern_hall_list(out, *size_out, before, 0, 0x50000000u, list, MOST, &read) == 0, "a saved hall is not read");
+        require(read == n && memcmp(list, before, n) == 0, "a saved hall is read as another");
+    }
+    told(check);
+    give_back_input(FIRST);
+    return 2;
+}
+
 static unsigned call_buffer(void)
 {
     any_sections();
@@ -447,24 +598,30 @@ static void *drive(void *nothing)
 {
     uint64_t calls = 0;
     while (calls < wanted) {
-        switch (next() % 16) {
+        switch (next() % 20) {
         case 0: case 1: case 2: case 3: case 4: calls += call_list(); break;
         case 5: case 6: calls += call_lists(); break;
         case 7: case 8: case 9: calls += call_buffer(); break;
         case 10: case 11: case 12: case 13: calls += call_vertices(); break;
         case 14: calls += call_run(); break;
+        case 16: case 17: case 18: calls += call_edit(); break;
+        case 19: calls += call_save(); break;
         default: calls += call_numbers();
         }
     }
     printf("%llu calls; with an output: %llu accepted (%llu bytes), refused", (unsigned long long)calls, (unsigned long long)accepted,
            (unsigned long long)result_bytes);
-    for (int i = 1; i <= 10; i++)
+    for (int i = 1; i <= 20; i++)
         if (refused[i])
             printf(" %llu by %d", (unsigned long long)refused[i], i);
     printf("; hall checks: %llu sound", (unsigned long long)verdicts[0]);
     for (int i = 11; i <= 19; i++)
         if (verdicts[i])
             printf(", %llu by %d", (unsigned long long)verdicts[i], i);
+    printf("; edits: %llu accepted", (unsigned long long)edits[0]);
+    for (int i = 1; i <= 24; i++)
+        if (edits[i])
+            printf(", %llu by %d", (unsigned long long)edits[i], i);
     printf("\n");
     return nothing;
 }

@@ -329,7 +329,7 @@ fn many_small_edits_need_no_room_of_the_caller() {
 /// What is saved and taken in again.
 fn saved(hall: &Hall) -> Hall {
     let image = hall.save().unwrap();
-    assert!(image.len() % 16 == 0);
+    assert_eq!(image.len() % 16, 0);
     Hall::from_sections(&Sections::new(&image, &[]), Sections::SYSTEM).unwrap()
 }
 

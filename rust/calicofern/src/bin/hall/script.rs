@@ -85,7 +85,7 @@ fn add_geometry(hall: &mut Hall, mut words: Words<'_>) -> Result<(), Failure> {
         numbers.push(parsed(word, "number")?);
     }
     let indices = words.rest("index")?;
-    if width == 0 || numbers.len() % width != 0 {
+    if width == 0 || !numbers.len().is_multiple_of(width) {
         let wanted = format!("the components take {width} numbers a vertex, and {} are given", numbers.len());
         return Err(Failure::Usage(wanted));
     }
