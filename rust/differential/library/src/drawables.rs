@@ -463,7 +463,7 @@ fn word(random: &mut Random, lengths: [usize; 2]) -> u64 {
 }
 
 /// A copy that is cut, or whose bytes or words are changed.
-fn damaged(random: &mut Random, whole: Drawable) -> Drawable {
+pub fn damaged(random: &mut Random, whole: Drawable) -> Drawable {
     let mut made = whole;
     for _ in 0..random.between(1, 3) {
         let lengths = [made.system.len(), made.graphics.len()];

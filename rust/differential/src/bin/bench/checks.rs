@@ -29,14 +29,14 @@ pub fn bench_checks(bench: &Bench) {
 }
 
 /// A sound hall, and where its indices stand.
-struct Hall {
-    list: Vec<u8>,
+pub struct Hall {
+    pub list: Vec<u8>,
     indices: Vec<Range<usize>>,
     records: usize,
 }
 
 /// Models of as many geometries each, whose vertices are positions of three floats. The indices are any below the number of vertices.
-fn hall(models: usize, geometries: usize, vertices: usize, triangles: usize) -> Hall {
+pub fn hall(models: usize, geometries: usize, vertices: usize, triangles: usize) -> Hall {
     let random = &mut Random::new(13);
     let content = random.bytes(12 * vertices);
     let (mut list, mut indices) = (Vec::new(), Vec::new());

@@ -8,6 +8,7 @@
 //!
 //! `--quick` takes fewer rounds, `--once` makes each call of the library once and times nothing, for callgrind; PART names the rows that hold it.
 mod checks;
+mod edits;
 
 use std::hint::black_box;
 
@@ -49,6 +50,8 @@ fn main() {
         }
     }
     checks::bench_checks(&bench);
+    edits::bench_edits(&bench);
+    edits::bench_saves(&bench);
 }
 
 /// Names, flags and types.
@@ -113,6 +116,13 @@ struct Times {
     median: f64,
 }
 
+impl Times {
+    fn of(mut times: Vec<f64>) -> Self {
+        times.sort_by(f64::total_cmp);
+        Self { least: times[0], median: times[times.len() / 2] }
+    }
+}
+
 impl Bench {
     fn leaves_out(&self, name: &str) -> bool {
         self.only.as_ref().is_some_and(|part| !name.contains(part))
@@ -129,10 +139,7 @@ impl Bench {
                 found[place].push((now() - start) / calls[place] as f64);
             }
         }
-        found.map(|mut times: Vec<f64>| {
-            times.sort_by(f64::total_cmp);
-            Times { least: times[0], median: times[times.len() / 2] }
-        })
+        found.map(Times::of)
     }
 
     fn row(&self, name: &str, bytes: usize, goal: Goal, works: &mut [&mut dyn FnMut(); 3]) {
