@@ -1,6 +1,6 @@
 //! The surface of each material of a hall: what a prediction of reverberation starts from.
 //!
-//! cargo run --example surfaces -- ../../samples/shoebox.system
+//! cargo run --example surfaces -- samples/shoebox.system
 
 use calicofern::{DrawableGeometry, Refusal, Sections};
 use std::collections::BTreeMap;

@@ -9,7 +9,7 @@ use crate::{Disagreement, Models, Place, Refusal};
 /// ```
 /// use calicofern::{hall_check, Sections};
 ///
-/// # let system = std::fs::read(concat!(env!("CARGO_MANIFEST_DIR"), "/../../samples/shoebox.system")).unwrap();
+/// # let system = std::fs::read(concat!(env!("CARGO_MANIFEST_DIR"), "/samples/shoebox.system")).unwrap();
 /// let hall = Sections::new(&system, &[]).hall_list(Sections::SYSTEM).unwrap();
 /// assert_eq!(hall_check(hall.as_bytes()), Ok(()));
 ///

@@ -82,7 +82,7 @@ impl<'a> DrawableGeometry<'a> {
     /// plausible.
     ///
     /// ```
-    /// # let system = std::fs::read(concat!(env!("CARGO_MANIFEST_DIR"), "/../../samples/damaged.system")).unwrap();
+    /// # let system = std::fs::read(concat!(env!("CARGO_MANIFEST_DIR"), "/samples/damaged.system")).unwrap();
     /// use calicofern::Sections;
     /// let hall = Sections::new(&system, &[]).hall_list(Sections::SYSTEM)?;
     /// let balcony = hall.models().next().unwrap().geometries().nth(1).unwrap();

@@ -70,7 +70,7 @@ impl Hall {
     ///
     /// ```
     /// use calicofern::{Hall, Sections};
-    /// # let system = std::fs::read(concat!(env!("CARGO_MANIFEST_DIR"), "/../../samples/shoebox.system")).unwrap();
+    /// # let system = std::fs::read(concat!(env!("CARGO_MANIFEST_DIR"), "/samples/shoebox.system")).unwrap();
     /// let hall = Hall::from_sections(&Sections::new(&system, &[]), Sections::SYSTEM)?;
     /// assert_eq!(hall.models().count(), 2);
     /// # Ok::<(), calicofern::Refusal>(())
@@ -124,7 +124,7 @@ impl Hall {
     ///
     /// ```
     /// use calicofern::{Hall, Sections};
-    /// # let system = std::fs::read(concat!(env!("CARGO_MANIFEST_DIR"), "/../../samples/shoebox.system")).unwrap();
+    /// # let system = std::fs::read(concat!(env!("CARGO_MANIFEST_DIR"), "/samples/shoebox.system")).unwrap();
     /// let hall = Hall::from_sections(&Sections::new(&system, &[]), Sections::SYSTEM)?;
     /// let numbers: Vec<(u64, u64)> = hall.geometries().map(|(model, geometry, _)| (model, geometry)).collect();
     /// assert_eq!(numbers, [(0, 0), (0, 1), (0, 2), (1, 0), (1, 1), (1, 2), (1, 3)]);
@@ -259,7 +259,7 @@ impl Hall {
     ///
     /// ```
     /// use calicofern::{Hall, Sections};
-    /// # let system = std::fs::read(concat!(env!("CARGO_MANIFEST_DIR"), "/../../samples/shoebox.system")).unwrap();
+    /// # let system = std::fs::read(concat!(env!("CARGO_MANIFEST_DIR"), "/samples/shoebox.system")).unwrap();
     /// let hall = Hall::from_sections(&Sections::new(&system, &[]), Sections::SYSTEM)?;
     /// let image = hall.save()?;
     /// assert_eq!(Hall::from_sections(&Sections::new(&image, &[]), Sections::SYSTEM)?, hall);

@@ -8,7 +8,7 @@
 //! use calicofern::Sections;
 //!
 //! # fn main() -> Result<(), Box<dyn std::error::Error>> {
-//! # let folder = concat!(env!("CARGO_MANIFEST_DIR"), "/../../samples/");
+//! # let folder = concat!(env!("CARGO_MANIFEST_DIR"), "/samples/");
 //! let system = std::fs::read(format!("{folder}shoebox.system"))?;
 //! let hall = Sections::new(&system, &[]).hall_list(Sections::SYSTEM)?;
 //! for model in hall.models() {

@@ -58,8 +58,8 @@ impl<'a> DrawableModel<'a> {
     /// The bone that it hangs off.
     ///
     /// ```
-    /// # let system = std::fs::read(concat!(env!("CARGO_MANIFEST_DIR"), "/../../samples/layouts.system")).unwrap();
-    /// # let graphics = std::fs::read(concat!(env!("CARGO_MANIFEST_DIR"), "/../../samples/layouts.graphics")).unwrap();
+    /// # let system = std::fs::read(concat!(env!("CARGO_MANIFEST_DIR"), "/samples/layouts.system")).unwrap();
+    /// # let graphics = std::fs::read(concat!(env!("CARGO_MANIFEST_DIR"), "/samples/layouts.graphics")).unwrap();
     /// use calicofern::Sections;
     /// let hall = Sections::new(&system, &graphics).hall_list(Sections::SYSTEM)?;
     /// let model = hall.models().next().unwrap();

@@ -30,7 +30,7 @@ impl fmt::Display for Place {
 ///
 /// ```
 /// use calicofern::Sections;
-/// # let system = std::fs::read(concat!(env!("CARGO_MANIFEST_DIR"), "/../../samples/shoebox.system")).unwrap();
+/// # let system = std::fs::read(concat!(env!("CARGO_MANIFEST_DIR"), "/samples/shoebox.system")).unwrap();
 /// let refusal = Sections::new(&system, &[]).hall_list_into(Sections::SYSTEM, &mut [0; 100]).unwrap_err();
 /// assert_eq!(refusal.check(), 7);
 /// let needed = refusal.needed().unwrap();

@@ -61,7 +61,7 @@ impl<'a> Sections<'a> {
     ///
     /// ```
     /// use calicofern::{Models, Sections};
-    /// # let system = std::fs::read(concat!(env!("CARGO_MANIFEST_DIR"), "/../../samples/shoebox.system")).unwrap();
+    /// # let system = std::fs::read(concat!(env!("CARGO_MANIFEST_DIR"), "/samples/shoebox.system")).unwrap();
     /// let mut list = vec![0; 65536];
     /// let length = Sections::new(&system, &[]).hall_list_into(Sections::SYSTEM, &mut list)?;
     /// assert_eq!(Models::of(&list[..length]).count(), 2);

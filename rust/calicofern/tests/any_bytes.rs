@@ -51,8 +51,8 @@ fn lists_of_any_bytes() {
 
 #[test]
 fn lists_with_changed_bytes_and_cut_lists() {
-    let system = std::fs::read(concat!(env!("CARGO_MANIFEST_DIR"), "/../../samples/layouts.system")).unwrap();
-    let graphics = std::fs::read(concat!(env!("CARGO_MANIFEST_DIR"), "/../../samples/layouts.graphics")).unwrap();
+    let system = std::fs::read(concat!(env!("CARGO_MANIFEST_DIR"), "/samples/layouts.system")).unwrap();
+    let graphics = std::fs::read(concat!(env!("CARGO_MANIFEST_DIR"), "/samples/layouts.graphics")).unwrap();
     let list = Sections::new(&system, &graphics).hall_list(Sections::SYSTEM).unwrap().into_bytes();
     let mut numbers = Numbers(2);
     for _ in 0..500 {
@@ -67,8 +67,8 @@ fn lists_with_changed_bytes_and_cut_lists() {
 
 #[test]
 fn drawables_with_changed_bytes() {
-    let whole = std::fs::read(concat!(env!("CARGO_MANIFEST_DIR"), "/../../samples/layouts.system")).unwrap();
-    let graphics = std::fs::read(concat!(env!("CARGO_MANIFEST_DIR"), "/../../samples/layouts.graphics")).unwrap();
+    let whole = std::fs::read(concat!(env!("CARGO_MANIFEST_DIR"), "/samples/layouts.system")).unwrap();
+    let graphics = std::fs::read(concat!(env!("CARGO_MANIFEST_DIR"), "/samples/layouts.graphics")).unwrap();
     let mut numbers = Numbers(3);
     let mut refused = [0; 11];
     for _ in 0..3000 {

@@ -4,7 +4,7 @@ use std::path::{Path, PathBuf};
 use std::process::{Command, Output};
 
 fn hall(words: &[&str]) -> Output {
-    let root = Path::new(env!("CARGO_MANIFEST_DIR")).join("../..");
+    let root = Path::new(env!("CARGO_MANIFEST_DIR"));
     Command::new(env!("CARGO_BIN_EXE_hall")).args(words).current_dir(root).output().expect("hall starts")
 }
 
@@ -76,7 +76,7 @@ fn an_address_without_a_header_has_no_models() {
 fn refusals_are_one_line_and_status_1() {
     let folder = folder("refused");
     let cut = path(&folder, "cut.system");
-    let whole = std::fs::read(Path::new(env!("CARGO_MANIFEST_DIR")).join("../../samples/shoebox.system")).unwrap();
+    let whole = std::fs::read(Path::new(env!("CARGO_MANIFEST_DIR")).join("samples/shoebox.system")).unwrap();
     std::fs::write(&cut, &whole[..9000]).unwrap();
     let (status, said) = failed(&["list", "--system", &cut]);
     assert_eq!(status, 1);

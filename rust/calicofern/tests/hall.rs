@@ -9,7 +9,7 @@ fn bytes(numbers: &[f32]) -> Vec<u8> {
 }
 
 fn section(name: &str) -> Vec<u8> {
-    let path = format!("{}/../../samples/{name}", env!("CARGO_MANIFEST_DIR"));
+    let path = format!("{}/samples/{name}", env!("CARGO_MANIFEST_DIR"));
     std::fs::read(&path).unwrap_or_else(|error| panic!("{path}: {error}"))
 }
 

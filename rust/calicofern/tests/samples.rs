@@ -3,7 +3,7 @@
 use calicofern::{HallList, InlineVertices, Models, Sections, VertexAttributeValue, VertexBufferLayout};
 
 fn section(name: &str) -> Vec<u8> {
-    let path = format!("{}/../../samples/{name}", env!("CARGO_MANIFEST_DIR"));
+    let path = format!("{}/samples/{name}", env!("CARGO_MANIFEST_DIR"));
     std::fs::read(&path).unwrap_or_else(|error| panic!("{path}: {error}"))
 }
 

@@ -9,7 +9,7 @@ use calicofern::{Hall, Refusal, Sections, UnifiedVertex, Vertices, ALLOCATION_LI
 use std::fs;
 use std::path::PathBuf;
 
-const SHOEBOX: &[u8] = include_bytes!("../../../../../samples/shoebox.system");
+const SHOEBOX: &[u8] = include_bytes!("../../../samples/shoebox.system");
 
 pub fn run(mut arguments: Arguments) -> Result<String, Failure> {
     let folder = arguments.option("--out")?.map_or_else(|| std::env::temp_dir().join("hall-demo"), PathBuf::from);
