@@ -1,8 +1,9 @@
 //! `hall demo`: a sample hall, from reading to unified vertices, and through an edit to a saved drawable and back.
 
 use crate::arguments::Arguments;
-use crate::drawable::{write, Drawable};
+use crate::drawable::Drawable;
 use crate::failure::Failure;
+use crate::output::write;
 use crate::table::{counted, Table};
 use crate::{list, show, vertices};
 use calicofern::{Hall, Refusal, Sections, UnifiedVertex, Vertices, ALLOCATION_LIMIT};

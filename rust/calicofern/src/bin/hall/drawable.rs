@@ -4,7 +4,7 @@ use crate::arguments::Arguments;
 use crate::failure::Failure;
 use crate::progress;
 use calicofern::{HallList, Sections, ALLOCATION_LIMIT};
-use std::fs::{self, File};
+use std::fs::File;
 use std::io::{self, Read};
 
 /// A drawable's section files, read.
@@ -62,9 +62,4 @@ fn read(path: &str) -> io::Result<Vec<u8>> {
         File::open(path)?.take(Sections::LIMIT as u64 + 1).read_to_end(&mut bytes)?;
         Ok(bytes)
     })
-}
-
-/// Writes a file, whole.
-pub fn write(path: &str, bytes: &[u8]) -> Result<(), Failure> {
-    progress::during("writing a file", || fs::write(path, bytes)).map_err(|error| Failure::File(path.to_string(), error))
 }

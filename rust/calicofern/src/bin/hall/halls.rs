@@ -1,8 +1,9 @@
 //! Halls in files: a hall's file is its list.
 
 use crate::arguments::Arguments;
-use crate::drawable::{write, Drawable};
+use crate::drawable::Drawable;
 use crate::failure::Failure;
+use crate::output::write;
 use crate::progress;
 use crate::table::counted;
 use calicofern::{Hall, Sections};

@@ -1,8 +1,8 @@
 //! `hall halves`: halves as floats and back.
 
 use crate::arguments::Arguments;
-use crate::drawable::write;
 use crate::failure::Failure;
+use crate::output::write;
 use crate::progress;
 use crate::table::{counted, Table};
 use calicofern::convert::{f16_to_f32, f32_to_f16, floats_to_halves, halves_to_floats};

@@ -1,8 +1,9 @@
 //! `hall list`: what a drawable holds.
 
 use crate::arguments::Arguments;
-use crate::drawable::{write, Drawable};
+use crate::drawable::Drawable;
 use crate::failure::Failure;
+use crate::output::write;
 use crate::progress;
 use crate::table::{counted, grouped, Table};
 use calicofern::{DrawableGeometry, DrawableModel, HallList, VertexDeclaration};

@@ -1,17 +1,23 @@
 //! Shows what RAGE drawables hold, and edits halls: `hall --help` says how.
+#![deny(unsafe_code)]
 
 mod arguments;
 mod demo;
 mod drawable;
 mod failure;
+mod files;
 mod halls;
 mod halves;
 mod list;
+mod memory;
 mod obj;
+mod output;
 mod progress;
 mod script;
 mod show;
+mod signals;
 mod table;
+mod unfinished;
 mod vertices;
 
 use arguments::Arguments;
@@ -80,6 +86,7 @@ cannot be read or written.
 ";
 
 fn main() -> ExitCode {
+    signals::watch();
     let words = std::env::args_os().skip(1).map(|word| word.into_string());
     let done = words.collect::<Result<Vec<_>, _>>().map_err(|word| Failure::Usage(format!("{word:?} is not text"))).and_then(run);
     match done.and_then(|text| print(&text)) {

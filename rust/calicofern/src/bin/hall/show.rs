@@ -1,9 +1,9 @@
 //! `hall show`: a hall seen from above and from the side, as SVG.
 
 use crate::arguments::Arguments;
-use crate::drawable::write;
 use crate::failure::Failure;
 use crate::halls::{path, read, said};
+use crate::output::write;
 use crate::progress;
 use calicofern::{Hall, Refusal};
 use std::collections::BTreeMap;

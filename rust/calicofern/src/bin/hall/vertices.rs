@@ -1,9 +1,10 @@
 //! `hall vertices`: the vertices of one geometry.
 
 use crate::arguments::Arguments;
-use crate::drawable::{write, Drawable};
+use crate::drawable::Drawable;
 use crate::failure::Failure;
 use crate::obj::Obj;
+use crate::output::write;
 use crate::progress;
 use crate::table::{counted, Table};
 use calicofern::{DrawableGeometry, HallList, UnifiedVertex, Vertices};
