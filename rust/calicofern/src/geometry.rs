@@ -73,7 +73,7 @@ impl<'a> DrawableGeometry<'a> {
     }
 
     /// Its indices in threes: one triangle each. One or two indices too many are left out, and none are checked against the vertices.
-    pub fn triangles(&self) -> impl Iterator<Item = [u32; 3]> + 'a {
+    pub fn triangles(&self) -> impl ExactSizeIterator<Item = [u32; 3]> + Clone + 'a {
         let data = self.index_buffer.map_or(&[][..], |indices| indices.data);
         data.chunks_exact(12).map(|three| [u32_at(three, 0), u32_at(three, 4), u32_at(three, 8)])
     }

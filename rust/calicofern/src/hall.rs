@@ -130,10 +130,8 @@ impl Hall {
     /// assert_eq!(numbers, [(0, 0), (0, 1), (0, 2), (1, 0), (1, 1), (1, 2), (1, 3)]);
     /// # Ok::<(), calicofern::Refusal>(())
     /// ```
-    pub fn geometries(&self) -> impl Iterator<Item = (u64, u64, DrawableGeometry<'_>)> {
-        self.models()
-            .zip(0..)
-            .flat_map(|(model, number)| model.geometries().zip(0..).map(move |(geometry, place)| (number, place, geometry)))
+    pub fn geometries(&self) -> impl Iterator<Item = (u64, u64, DrawableGeometry<'_>)> + Clone {
+        self.models().geometries()
     }
 
     /// The triangles of all geometries.

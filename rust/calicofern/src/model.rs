@@ -3,7 +3,7 @@
 use crate::bytes::{u16_at, u32_at};
 use crate::disagreement::{equal, Disagreement};
 use crate::record::{Records, MODEL};
-use crate::{calls, Geometries};
+use crate::{calls, DrawableGeometry, Geometries};
 
 /// The models of a list, in order.
 #[derive(Debug, Clone)]
@@ -15,6 +15,11 @@ impl<'a> Models<'a> {
     /// The models in a list's bytes. Any bytes will do: a record that is not whole ends the list.
     pub fn of(list: &'a [u8]) -> Self {
         Models { rest: Records::of(list) }
+    }
+
+    /// Every geometry of every model, with the numbers of both, counted from 0.
+    pub fn geometries(self) -> impl Iterator<Item = (u64, u64, DrawableGeometry<'a>)> + Clone {
+        self.zip(0..).flat_map(|(model, number)| model.geometries().zip(0..).map(move |(geometry, place)| (number, place, geometry)))
     }
 }
 

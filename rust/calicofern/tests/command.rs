@@ -1,40 +1,9 @@
 //! The command line program on the drawables in samples/.
 
-use std::path::{Path, PathBuf};
-use std::process::{Command, Output};
+mod program;
 
-fn hall(words: &[&str]) -> Output {
-    let root = Path::new(env!("CARGO_MANIFEST_DIR"));
-    Command::new(env!("CARGO_BIN_EXE_hall")).args(words).current_dir(root).output().expect("hall starts")
-}
-
-/// What it prints, where it ends well and says nothing on standard error.
-fn printed(words: &[&str]) -> String {
-    let done = hall(words);
-    let said = String::from_utf8_lossy(&done.stderr).into_owned();
-    assert_eq!((done.status.code(), said.as_str()), (Some(0), ""), "{words:?}");
-    String::from_utf8(done.stdout).unwrap()
-}
-
-/// Its exit status and the one line on standard error, where it prints nothing.
-fn failed(words: &[&str]) -> (i32, String) {
-    let done = hall(words);
-    assert!(done.stdout.is_empty(), "{words:?}");
-    let said = String::from_utf8(done.stderr).unwrap();
-    assert_eq!(said.lines().count(), 1, "{said}");
-    (done.status.code().unwrap(), said.trim_end().to_string())
-}
-
-/// A folder of a test's own.
-fn folder(name: &str) -> PathBuf {
-    let folder = Path::new(env!("CARGO_TARGET_TMPDIR")).join(name);
-    std::fs::create_dir_all(&folder).unwrap();
-    folder
-}
-
-fn path(folder: &Path, name: &str) -> String {
-    folder.join(name).display().to_string()
-}
+use program::{failed, folder, path, printed, strictly_failed};
+use std::path::Path;
 
 #[test]
 fn list_shows_a_sound_hall() {
@@ -58,6 +27,14 @@ fn list_marks_counts_that_disagree() {
 }
 
 #[test]
+fn strict_makes_counts_that_disagree_a_failure() {
+    let (text, said) = strictly_failed(&["list", "samples/damaged", "--strict"]);
+    assert_eq!(text, printed(&["list", "samples/damaged"]));
+    assert_eq!(said, "hall: --strict: 4 pairs of numbers disagree");
+    printed(&["list", "samples/shoebox", "--strict"]);
+}
+
+#[test]
 fn list_writes_the_bytes() {
     let file = path(&folder("list"), "layouts.list");
     let text = printed(&["list", "--bytes", &file, "--system", "samples/layouts.system", "--graphics", "samples/layouts.graphics"]);
@@ -69,7 +46,10 @@ fn list_writes_the_bytes() {
 #[test]
 fn an_address_without_a_header_has_no_models() {
     let text = printed(&["list", "samples/shoebox", "--at", "0x5fffffff"]);
-    assert!(text.ends_with("no models: the LOD header at this address lists none, or is not inside its section\n"), "{text}");
+    assert!(
+        text.contains("\nno models: ") && text.ends_with("the LOD header at this address lists none or is not inside its section\n"),
+        "{text}"
+    );
 }
 
 #[test]
@@ -102,6 +82,7 @@ fn wrong_usage_is_one_line_and_status_2() {
         &["list", "samples/shoebox", "--at"],
         &["list", "samples/shoebox", "--at", "here"],
         &["list", "--graphics", "samples/layouts.graphics"],
+        &["list", "--system", "samples/layouts.system", "samples/layouts"],
         &["list", "samples/shoebox", "--bytes", "samples/shoebox.system/file"],
         &["vertices", "samples/shoebox", "--model", "2"],
         &["vertices", "samples/shoebox", "--geometry", "3"],
@@ -115,6 +96,9 @@ fn wrong_usage_is_one_line_and_status_2() {
         &["new"],
         &["take-in", "samples/shoebox"],
         &["check", "samples/nothing"],
+        &["check"],
+        &["help", "nothing"],
+        &["nothing", "--help"],
         &["edit", "samples/shoebox.system"],
         &["save"],
         &["show"],
@@ -153,14 +137,40 @@ fn vertices_are_written() {
 #[test]
 fn a_whole_hall_is_written_as_obj() {
     let file = path(&folder("obj"), "hall.obj");
-    printed(&["vertices", "samples/damaged", "--obj", &file, "--all"]);
+    let left_out = "left out 1 geometry: model 0 geometry 3 (no vertices)";
+    let said = printed(&["vertices", "samples/damaged", "--obj", &file, "--all"]);
+    assert_eq!(said, format!("wrote 132 positions and 170 triangles to {file}; {left_out}\n"));
     let text = std::fs::read_to_string(&file).unwrap();
-    assert!(text.ends_with("# model_0_geometry_3_shader_2: no vertices found\n"));
+    assert!(text.ends_with("# model_0_geometry_3_shader_2: no vertices\n"));
     let vertices = text.lines().filter(|line| line.starts_with("v ")).count();
     // faces count from 1 over all groups
     let corners = text.lines().filter(|line| line.starts_with("f ")).flat_map(|line| line[2..].split(' '));
     let corners: Vec<usize> = corners.map(|corner| corner.parse().unwrap()).collect();
     assert_eq!((corners.iter().min(), corners.iter().max()), (Some(&1), Some(&vertices)));
+    let strict = strictly_failed(&["vertices", "samples/damaged", "--obj", &file, "--all", "--strict"]);
+    assert_eq!(strict, (said, format!("hall: --strict: {left_out}")));
+}
+
+/// A coordinate that is no number has no place in an OBJ file, and must not become 0.
+#[test]
+fn obj_leaves_out_what_is_no_number() {
+    let folder = folder("no-number");
+    let (file, script, obj) = (path(&folder, "a.hall"), path(&folder, "script"), path(&folder, "a.obj"));
+    printed(&["new", &file]);
+    let square = "vertices 0 0 0  1 nan 0  1 1 0  0 1 0 indices 0 1 2  0 2 3";
+    std::fs::write(&script, format!("add-model 0 1\nadd-geometry 5 Position:Float3 {square}\nadd-geometry 6 Position:Float3 {square}\n"))
+        .unwrap();
+    printed(&["edit", &file, &script]);
+    let said = printed(&["vertices", &file, "--all", "--obj", &obj]);
+    let left_out = "left out 2 triangles with a coordinate that is no finite number";
+    assert_eq!(said, format!("wrote 6 positions and 2 triangles to {obj}; {left_out}\n"));
+    let text = std::fs::read_to_string(&obj).unwrap();
+    assert_eq!(
+        text,
+        "g model_0_geometry_0_shader_5\nv 0 0 0\nv 1 1 0\nv 0 1 0\nf 1 2 3\n\
+         g model_0_geometry_1_shader_6\nv 0 0 0\nv 1 1 0\nv 0 1 0\nf 4 5 6\n"
+    );
+    assert_eq!(strictly_failed(&["vertices", &file, "--all", "--obj", &obj, "--strict"]).1, format!("hall: --strict: {left_out}"));
 }
 
 #[test]
@@ -206,6 +216,7 @@ fn a_hall_is_made_and_edited() {
     let folder = folder("edit");
     let (file, script) = (path(&folder, "made.hall"), path(&folder, "script"));
     assert_eq!(printed(&["new", &file]), format!("wrote {file}: 0 models, 0 geometries, 0 triangles, 0 bytes\n"));
+    assert_eq!(printed(&["check", &file]), format!("{file} is an empty hall: it has no models\n"));
     std::fs::write(&script, SCRIPT).unwrap();
     let text = printed(&["edit", &file, &script]);
     assert_eq!(text, format!("3 calls; wrote {file}: 1 model, 1 geometry, 1 triangle, 127 bytes\n"));
@@ -246,8 +257,77 @@ fn drawables_are_taken_in() {
     assert!(printed(&["edit", &file, &script]).contains(": 2 models, 7 geometries, 382 triangles, 17,397 bytes\n"));
     let (status, said) = failed(&["take-in", "samples/damaged", "--out", &file]);
     assert_eq!((status, said.starts_with("hall: check 11: a geometry lacks its vertices")), (1, true), "{said}");
-    let (status, said) = failed(&["check", "samples/shoebox.system"]);
+}
+
+/// What a file is, is known by its bytes, and each command works on it or says what to do.
+#[test]
+fn any_file_and_any_command() {
+    let folder = folder("any");
+    let (hall, out) = (path(&folder, "shoebox.hall"), path(&folder, "out"));
+    printed(&["take-in", "samples/shoebox.system", "--out", &hall]);
+    // a hall
+    let listed = printed(&["list", &hall]);
+    assert!(listed.starts_with(&format!("{hall}: 17,397 bytes, a hall\n")), "{listed}");
+    assert!(listed.ends_with("\n2 models, 7 geometries, 382 triangles\nall counts agree\n"), "{listed}");
+    assert_eq!(printed(&["vertices", &hall, "--model", "1"]), printed(&["vertices", "samples/shoebox", "--model", "1"]));
+    assert_eq!(failed(&["take-in", &hall, "--out", &out]), (2, format!("hall: {hall} is a hall already: there is nothing to take in")));
+    assert_eq!(failed(&["list", &hall, "--at", "0x50000000"]).0, 2);
+    // a section, by its own name, by the drawable's, and by any other
+    let bare = path(&folder, "bare");
+    std::fs::copy("samples/shoebox.system", &bare).unwrap();
+    for name in ["samples/shoebox.system", "samples/shoebox", &bare] {
+        let is = "is a drawable, which taken in is a hall: 2 models, 7 geometries, 382 triangles, 17,397 bytes\n";
+        assert_eq!(printed(&["check", name]), format!("{name} {is}"));
+        assert!(printed(&["list", name]).starts_with(&format!("{name}: 17,648 bytes of system section, 0 of graphics section, read at ")));
+        assert!(printed(&["show", name, &out]).starts_with(&format!("wrote {out}: plan and long section of 2 models, 7 geometries")));
+    }
+    assert!(printed(&["list", "samples/layouts.system"]).contains("bytes of system section, 3,744 of graphics section"));
+    for words in [&["save", &bare, &out][..], &["edit", &bare, &out]] {
+        std::fs::write(&out, "").unwrap();
+        let (status, said) = failed(words);
+        let expected =
+            format!("hall: {bare} is a drawable's section and no hall: 'hall take-in {bare} --out NAME.hall' makes a hall of it");
+        assert_eq!((status, said), (2, expected), "{words:?}");
+    }
+    let (status, said) = failed(&["check", "samples/damaged"]);
     assert_eq!((status, said.starts_with("hall: check 11: ")), (1, true), "{said}");
+    // a packed resource
+    let packed = path(&folder, "packed.system");
+    std::fs::write(&packed, b"RSC7\xa5\0\0\0 and what follows").unwrap();
+    let named = path(&folder, "packed");
+    for words in [
+        &["list", &packed][..],
+        &["list", &named],
+        &["vertices", &packed],
+        &["show", &packed, &out],
+        &["check", &packed],
+        &["take-in", &packed, "--out", &out],
+        &["save", &packed, &out],
+        &["edit", &packed, &out],
+    ] {
+        let (status, said) = failed(words);
+        let is = "packed.system is a packed resource (RSC7): its two sections are what `prepare_rsc7` of the loader gives";
+        assert_eq!((status, said.contains(is)), (2, true), "{words:?}: {said}");
+    }
+    // a hall that is damaged is listed too, and refused
+    let mut bytes = std::fs::read(&hall).unwrap();
+    bytes[12 + 6 + 8] += 3;
+    std::fs::write(&hall, bytes).unwrap();
+    assert!(printed(&["list", &hall]).starts_with(&format!("{hall}: 17,397 bytes, not a sound hall; 'hall check' says why\n")));
+    let (status, said) = failed(&["check", &hall]);
+    assert_eq!((status, said.starts_with("hall: check 17: ")), (1, true), "{said}");
+}
+
+#[test]
+fn the_limit_of_take_in_is_the_halls() {
+    let file = path(&folder("limit"), "a.hall");
+    let (status, said) = failed(&["take-in", "samples/shoebox", "--out", &file, "--limit", "17396"]);
+    assert_eq!(
+        (status, said.as_str()),
+        (1, "hall: check 24: the buffer for the hall is too short: 17397 bytes are needed, and the limit is 17396")
+    );
+    assert!(!Path::new(&file).exists());
+    printed(&["take-in", "samples/shoebox", "--out", &file, "--limit", "17397"]);
 }
 
 #[test]
@@ -261,8 +341,6 @@ fn a_hall_is_saved_and_taken_in_again() {
     printed(&["take-in", &name, "--out", &again]);
     assert_eq!(std::fs::read(&file).unwrap(), std::fs::read(&again).unwrap());
     assert!(printed(&["list", &name]).ends_with("\n2 models, 7 geometries, 382 triangles\nall counts agree\n"));
-    let (status, said) = failed(&["save", "samples/shoebox.system", &system]);
-    assert_eq!((status, said.starts_with("hall: check 11: ")), (1, true), "{said}");
 }
 
 #[test]
@@ -285,8 +363,18 @@ fn help_and_version() {
     let help = printed(&["--help"]);
     for command in ["list", "vertices", "halves", "demo", "new", "take-in", "check", "edit", "save", "show"] {
         assert!(help.contains(&format!("\n  hall {command} ")), "{help}");
+        let own = printed(&[command, "--help"]);
+        assert_eq!(own, printed(&["help", command]));
+        assert!(own.starts_with(&format!("  hall {command} ")) && own.matches("\n  hall ").count() == 0, "{own}");
+        assert!(own.contains("Exit status: 0 done;"), "{own}");
+        assert!(!own.is_empty() && help.contains(own.split("\n\n").next().unwrap()), "{own}");
     }
-    assert_eq!(printed(&["list", "--help"]), help);
-    assert!(help.lines().all(|line| line.len() <= 110), "{help}");
+    let script = printed(&["help", "script"]);
+    for call in ["add-model", "add-geometry", "remove-geometry", "remove-model", "set-attribute", "replace-indices", "take-in"] {
+        assert!(script.contains(&format!("\n  {call} ")), "{script}");
+    }
+    assert!(help.contains(&script) && help.lines().all(|line| line.len() <= 110), "{help}");
+    assert_eq!(failed(&["lits"]).1, "hall: there is no command 'lits'; did you mean list?; 'hall --help' lists them");
+    assert!(failed(&["list", "samples/shoebox", "--strickt"]).1.contains("'--strickt' is not known here; did you mean --strict?"));
     assert_eq!(printed(&["--version"]), format!("hall {}\n", env!("CARGO_PKG_VERSION")));
 }

@@ -1,29 +1,32 @@
 //! The words behind the command.
 
 use crate::failure::Failure;
+use crate::nearest::nearest;
 
 /// Words that a command takes one after another; `finish` refuses those that nothing took.
 pub struct Arguments {
     words: Vec<String>,
+    /// The options that were asked for.
+    known: Vec<&'static str>,
 }
 
 impl Arguments {
     pub fn new(words: Vec<String>) -> Self {
-        Arguments { words }
+        Arguments { words, known: Vec::new() }
     }
 
     /// Whether an option without a value is there.
-    pub fn flag(&mut self, name: &str) -> Result<bool, Failure> {
+    pub fn flag(&mut self, name: &'static str) -> Result<bool, Failure> {
         Ok(self.values(name, 0)?.is_some())
     }
 
     /// The value behind an option.
-    pub fn option(&mut self, name: &str) -> Result<Option<String>, Failure> {
+    pub fn option(&mut self, name: &'static str) -> Result<Option<String>, Failure> {
         Ok(self.values(name, 1)?.and_then(|values| values.into_iter().next()))
     }
 
     /// The number behind an option, decimal or hexadecimal after 0x.
-    pub fn number(&mut self, name: &str) -> Result<Option<u64>, Failure> {
+    pub fn number(&mut self, name: &'static str) -> Result<Option<u64>, Failure> {
         let Some(word) = self.option(name)? else {
             return Ok(None);
         };
@@ -35,7 +38,8 @@ impl Arguments {
     }
 
     /// The values behind an option that has several.
-    pub fn values(&mut self, name: &str, count: usize) -> Result<Option<Vec<String>>, Failure> {
+    pub fn values(&mut self, name: &'static str, count: usize) -> Result<Option<Vec<String>>, Failure> {
+        self.known.push(name);
         let Some(at) = self.words.iter().position(|word| word == name) else {
             return Ok(None);
         };
@@ -59,7 +63,10 @@ impl Arguments {
     /// Refuses the words that nothing took.
     pub fn finish(self) -> Result<(), Failure> {
         match self.words.first() {
-            Some(word) => Err(Failure::Usage(format!("'{word}' is not known here; 'hall --help' says what is"))),
+            Some(word) => {
+                let near = nearest(word, &self.known).map_or(String::new(), |name| format!("; did you mean {name}?"));
+                Err(Failure::Usage(format!("'{word}' is not known here{near}; --help behind the command says what is")))
+            }
             None => Ok(()),
         }
     }
@@ -92,5 +99,8 @@ mod tests {
         assert!(arguments("--at 0x10000000000000000").number("--at").is_err());
         assert!(arguments("--at 1 --at 2").number("--at").is_err());
         assert!(arguments("--what").finish().is_err());
+        let mut near = arguments("--strickt");
+        assert_eq!(near.flag("--strict").ok(), Some(false));
+        assert!(near.finish().unwrap_err().to_string().contains("did you mean --strict?"));
     }
 }

@@ -1,11 +1,11 @@
 //! `hall demo`: a sample hall, from reading to unified vertices, and through an edit to a saved drawable and back.
 
 use crate::arguments::Arguments;
-use crate::drawable::Drawable;
 use crate::failure::Failure;
 use crate::output::write;
+use crate::source::{Drawable, Source, What};
 use crate::table::{counted, Table};
-use crate::{list, show, vertices};
+use crate::{list, obj, show, vertices};
 use calicofern::{Hall, Refusal, Sections, UnifiedVertex, Vertices, ALLOCATION_LIMIT};
 use std::fs;
 use std::path::PathBuf;
@@ -18,16 +18,10 @@ pub fn run(mut arguments: Arguments) -> Result<String, Failure> {
     let path = |name: &str| folder.join(name).display().to_string();
     fs::create_dir_all(&folder).map_err(|error| Failure::File(folder.display().to_string(), error))?;
 
-    let drawable = Drawable {
-        name: "samples/shoebox".to_string(),
-        system: SHOEBOX.to_vec(),
-        graphics: Vec::new(),
-        at: Sections::SYSTEM,
-        limit: ALLOCATION_LIMIT,
-    };
-    let hall = drawable.list()?;
+    let drawable = Drawable { system: SHOEBOX.to_vec(), graphics: Vec::new(), at: Sections::SYSTEM, limit: ALLOCATION_LIMIT };
+    let (line, hall) = Source { name: "samples/shoebox".to_string(), what: What::Drawable(drawable) }.list()?;
     let mut text = "A concert hall of 20 x 32 x 14 m, as hall list shows it\n\n".to_string();
-    text += &list::shown(&drawable, &hall);
+    text += &list::shown(&line, &hall);
     write(&path("shoebox.list"), hall.as_bytes())?;
 
     let balcony = hall.models().nth(1).and_then(|model| model.geometries().nth(2));
@@ -39,16 +33,16 @@ pub fn run(mut arguments: Arguments) -> Result<String, Failure> {
         vertices::write_unified(&stored, &path("balcony.unified"))?;
     }
 
-    vertices::write_all_obj(&hall, &path("shoebox.obj"))?;
+    obj::write(hall.models().geometries(), &path("shoebox.obj"))?;
 
     let mut edited = read_back(SHOEBOX)?;
-    show::draw(&edited, &path("shoebox.svg"))?;
+    show::draw(edited.list(), &path("shoebox.svg"))?;
     text += "\nThe balcony taken out, and one index too high, as an editor might do it\n\n";
     text += &edit(&mut edited)?;
     let image = edited.save()?;
     write(&path("edited.system"), &image)?;
     let again = read_back(&image)?;
-    show::draw(&again, &path("edited.svg"))?;
+    show::draw(again.list(), &path("edited.svg"))?;
     text += &format!("saved as a drawable of {}", counted(image.len() as u64, "byte", "bytes"));
     text += if again == edited { ", and read back as the same hall\n" } else { ", and read back as another hall\n" };
 

@@ -79,15 +79,19 @@ impl Files {
         }
     }
 
+    /// A file that is read part by part.
+    pub fn open(&mut self, path: &str) -> Result<File, Failure> {
+        self.note_input(path)?;
+        File::open(path).map_err(|error| Failure::File(path.to_string(), error))
+    }
+
     /// The lines of a script. `-` is standard input.
     pub fn lines(&mut self, path: &str) -> Result<Box<dyn BufRead>, Failure> {
-        let name = if path == "-" { "/dev/stdin" } else { path };
-        self.note_input(name)?;
         if path == "-" {
+            self.note_input("/dev/stdin")?;
             return Ok(Box::new(io::stdin().lock()));
         }
-        let file = File::open(path).map_err(|error| Failure::File(path.to_string(), error))?;
-        Ok(Box::new(BufReader::with_capacity(1 << 16, file)))
+        Ok(Box::new(BufReader::with_capacity(1 << 16, self.open(path)?)))
     }
 
     /// Says that a file is going to be written. Refused where it is one that is read, or one that is written already.

@@ -1,23 +1,18 @@
 //! Halls in files: a hall's file is its list.
 
 use crate::arguments::Arguments;
-use crate::drawable::Drawable;
 use crate::failure::Failure;
+use crate::files::Files;
 use crate::output::write;
 use crate::progress;
+use crate::source::{hall_in, read_hall, Source, What};
 use crate::table::counted;
 use calicofern::{Hall, Sections};
 use std::fs;
 
 /// The next word, a file's path.
 pub fn path(arguments: &mut Arguments, what: &str) -> Result<String, Failure> {
-    arguments.word().ok_or_else(|| Failure::Usage(format!("no {what}; 'hall --help' says what a command wants")))
-}
-
-/// The hall in a file.
-pub fn read(path: &str) -> Result<Hall, Failure> {
-    let list = progress::during("reading a file", || fs::read(path)).map_err(|error| Failure::File(path.to_string(), error))?;
-    Ok(progress::during("checking the hall", || Hall::from_list(list))?)
+    arguments.word().ok_or_else(|| Failure::Usage(format!("no {what}; --help behind the command says what it wants")))
 }
 
 /// What a hall has, in one line.
@@ -37,27 +32,49 @@ pub fn written(hall: &Hall, path: &str) -> Result<String, Failure> {
     Ok(format!("wrote {path}: {}\n", said(hall)))
 }
 
-/// `hall check`: whether a file is a hall.
+/// `hall check`: whether a file is a hall, or a drawable that can be taken in as one.
 pub fn check(mut arguments: Arguments) -> Result<String, Failure> {
-    let file = path(&mut arguments, "file")?;
+    let source = Source::read(&mut arguments, &mut Files::default())?;
     arguments.finish()?;
-    let hall = read(&file)?;
-    Ok(format!("{file} is a hall: {}\n", said(&hall)))
+    let name = source.name;
+    let (hall, is) = match source.what {
+        What::Hall(bytes) => (hall_in(&name, bytes)?, "is"),
+        What::Drawable(drawable) => {
+            let sections = drawable.sections();
+            let hall = progress::during("taking in the drawable", || Hall::from_sections(&sections, drawable.at))?;
+            (hall, "is a drawable, which taken in is")
+        }
+    };
+    Ok(match hall.models().next() {
+        Some(_) => format!("{name} {is} a hall: {}\n", said(&hall)),
+        None => format!("{name} {is} an empty hall: it has no models\n"),
+    })
 }
 
 /// `hall new`: a hall without models.
 pub fn new(mut arguments: Arguments) -> Result<String, Failure> {
+    let force = arguments.flag("--force")?;
     let file = path(&mut arguments, "file")?;
     arguments.finish()?;
+    let held = fs::metadata(&file).map_or(0, |data| data.len());
+    if held > 0 && !force {
+        let bytes = counted(held, "byte", "bytes");
+        return Err(Failure::Usage(format!("{file} is there and has {bytes}: a new hall takes its place only with --force")));
+    }
     written(&Hall::new(), &file)
 }
 
 /// `hall take-in`: the hall of a drawable.
 pub fn take_in(mut arguments: Arguments) -> Result<String, Failure> {
     let file = arguments.option("--out")?.ok_or_else(|| Failure::Usage("no file for the hall: give --out FILE".to_string()))?;
-    let drawable = Drawable::read(&mut arguments)?;
+    let mut files = Files::default();
+    files.note_output(&file)?;
+    let source = Source::read(&mut arguments, &mut files)?;
     arguments.finish()?;
-    let sections = Sections::new(&drawable.system, &drawable.graphics);
+    let What::Drawable(drawable) = source.what else {
+        return Err(Failure::Usage(format!("{} is a hall already: there is nothing to take in", source.name)));
+    };
+    let sections = drawable.sections();
     let hall = progress::during("taking in the drawable", || Hall::from_sections(&sections, drawable.at))?;
     written(&hall, &file)
 }
@@ -67,7 +84,9 @@ pub fn save(mut arguments: Arguments) -> Result<String, Failure> {
     let file = path(&mut arguments, "hall")?;
     let out = path(&mut arguments, "file for the system section")?;
     arguments.finish()?;
-    let hall = read(&file)?;
+    let mut files = Files::default();
+    files.note_output(&out)?;
+    let hall = read_hall(&file, &mut files)?;
     let image = progress::during("saving the hall", || hall.save())?;
     write(&out, &image)?;
     Ok(format!("wrote {out}: {} of system section, to be read at {:#x}\n", counted(image.len() as u64, "byte", "bytes"), Sections::SYSTEM))

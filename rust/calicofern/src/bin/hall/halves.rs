@@ -2,12 +2,14 @@
 
 use crate::arguments::Arguments;
 use crate::failure::Failure;
-use crate::output::write;
-use crate::progress;
+use crate::files::Files;
+use crate::output::Output;
+use crate::progress::{self, Progress};
 use crate::table::{counted, Table};
 use calicofern::convert::{f16_to_f32, f32_to_f16, floats_to_halves, halves_to_floats};
 use calicofern::Refusal;
-use std::fs;
+use std::fs::File;
+use std::io::{self, Read, Write};
 
 pub fn run(mut arguments: Arguments) -> Result<String, Failure> {
     let to_floats = arguments.values("--to-floats", 2)?;
@@ -15,11 +17,11 @@ pub fn run(mut arguments: Arguments) -> Result<String, Failure> {
     match (to_floats, to_halves) {
         (Some(files), None) => {
             arguments.finish()?;
-            converted(&files, 2, 4, halves_to_floats)
+            Conversion { from: 2, to: 4, convert: halves_to_floats }.run(&files[0], &files[1])
         }
         (None, Some(files)) => {
             arguments.finish()?;
-            converted(&files, 4, 2, floats_to_halves)
+            Conversion { from: 4, to: 2, convert: floats_to_halves }.run(&files[0], &files[1])
         }
         (Some(_), Some(_)) => Err(Failure::Usage("--to-floats and --to-halves are two commands".to_string())),
         (None, None) => numbers(arguments),
@@ -57,18 +59,47 @@ fn number(word: &str) -> Result<(u16, f32), Failure> {
     Ok((f32_to_f16(float), float))
 }
 
-type Conversion = fn(&[u8], &mut [u8]) -> Result<usize, Refusal>;
+/// The numbers that are converted at a time.
+const BLOCK: usize = 1 << 15;
 
-/// Converts a file of numbers of `from` bytes into one of `to` bytes each.
-fn converted(files: &[String], from: usize, to: usize, conversion: Conversion) -> Result<String, Failure> {
-    let (source, target) = (&files[0], &files[1]);
-    let bytes = progress::during("reading a file", || fs::read(source)).map_err(|error| Failure::File(source.clone(), error))?;
-    if bytes.len() % from != 0 {
-        return Err(Failure::Usage(format!("{source} has {} bytes, which is no multiple of {from}", bytes.len())));
+/// How a file of numbers of `from` bytes becomes one of `to` bytes each.
+struct Conversion {
+    from: usize,
+    to: usize,
+    convert: fn(&[u8], &mut [u8]) -> Result<usize, Refusal>,
+}
+
+impl Conversion {
+    fn run(&self, source: &str, target: &str) -> Result<String, Failure> {
+        let unread = |error| Failure::File(source.to_string(), error);
+        let mut files = Files::default();
+        files.note_output(target)?;
+        let file = files.open(source)?;
+        let length = file.metadata().map_err(unread)?.len();
+        let mut out = Output::create(target)?;
+        let bytes = progress::of(&format!("converting {source}"), length, |progress| self.convert(file, &mut out, progress, source))?;
+        if bytes % self.from as u64 != 0 {
+            return Err(Failure::Usage(format!("{source} has {bytes} bytes, which is no multiple of {}", self.from)));
+        }
+        out.finish()?;
+        let count = bytes / self.from as u64;
+        Ok(format!("wrote {}, {} bytes each, to {target}\n", counted(count, "number", "numbers"), self.to))
     }
-    let count = bytes.len() / from;
-    let mut out = vec![0; count * to];
-    progress::during("converting", || conversion(&bytes, &mut out))?;
-    write(target, &out)?;
-    Ok(format!("wrote {}, {to} bytes each, to {target}\n", counted(count as u64, "number", "numbers")))
+
+    /// Converts block by block; the bytes that were read.
+    fn convert(&self, mut file: File, out: &mut Output, progress: &Progress, source: &str) -> Result<u64, Failure> {
+        let (mut block, mut made, mut bytes) = (Vec::new(), vec![0; BLOCK * self.to], 0);
+        loop {
+            block.clear();
+            let read = Read::take(&mut file, (BLOCK * self.from) as u64).read_to_end(&mut block);
+            let read = read.map_err(|error: io::Error| Failure::File(source.to_string(), error))?;
+            let written = (self.convert)(&block, &mut made)?;
+            out.write_all(&made[..written]).map_err(|error| out.failed(error))?;
+            progress.add(read as u64);
+            bytes += read as u64;
+            if read < BLOCK * self.from {
+                return Ok(bytes);
+            }
+        }
+    }
 }

@@ -1,45 +1,35 @@
-//! `hall list`: what a drawable holds.
+//! `hall list`: what a drawable or a hall holds.
 
 use crate::arguments::Arguments;
-use crate::drawable::Drawable;
 use crate::failure::Failure;
+use crate::files::Files;
 use crate::output::write;
 use crate::progress;
+use crate::said::Said;
+use crate::source::Source;
 use crate::table::{counted, grouped, Table};
 use calicofern::{DrawableGeometry, DrawableModel, HallList, VertexDeclaration};
 
-pub fn run(mut arguments: Arguments) -> Result<String, Failure> {
+pub fn run(mut arguments: Arguments) -> Result<Said, Failure> {
     let bytes = arguments.option("--bytes")?;
-    let drawable = Drawable::read(&mut arguments)?;
+    let strict = arguments.flag("--strict")?;
+    let mut files = Files::default();
+    bytes.as_ref().map_or(Ok(()), |path| files.note_output(path))?;
+    let source = Source::read(&mut arguments, &mut files)?;
     arguments.finish()?;
-    let hall = drawable.list()?;
-    let mut text = shown(&drawable, &hall);
+    let (line, hall) = source.list()?;
+    let found = progress::during("comparing the counts", || Found::of(&hall));
+    let mut text = found.shown(&line, &hall);
     if let Some(path) = bytes {
         write(&path, hall.as_bytes())?;
         text += &format!("wrote the list, {}, to {path}\n", counted(hall.as_bytes().len() as u64, "byte", "bytes"));
     }
-    Ok(text)
+    Ok(Said::strictly(text, strict, found.disagreeing()))
 }
 
-/// The drawable, its models and geometries, its declarations, and what disagrees.
-pub fn shown(drawable: &Drawable, hall: &HallList) -> String {
-    let mut text = format!(
-        "{}: {} bytes of system section, {} of graphics section, read at {:#x}\n",
-        drawable.name,
-        grouped(drawable.system.len() as u64),
-        grouped(drawable.graphics.len() as u64),
-        drawable.at
-    );
-    let found = progress::during("comparing the counts", || Found::of(hall));
-    if found.models.is_empty() {
-        return text + "no models: the LOD header at this address lists none, or is not inside its section\n";
-    }
-    text += &found.models_shown();
-    text += &found.declarations_shown();
-    let models = counted(found.models.len() as u64, "model", "models");
-    let geometries = counted(found.models.iter().map(|(_, count)| *count as u64).sum(), "geometry", "geometries");
-    text += &format!("\n{models}, {geometries}, {}\n", counted(hall.triangle_count(), "triangle", "triangles"));
-    text + &found.disagreements_shown()
+/// The list under a line that says where it is from: its models and geometries, its declarations, and what disagrees.
+pub fn shown(line: &str, hall: &HallList) -> String {
+    Found::of(hall).shown(line, hall)
 }
 
 const TITLES: [&str; 11] =
@@ -63,6 +53,28 @@ impl Found {
             found.add(&model);
         }
         found
+    }
+
+    fn shown(&self, line: &str, hall: &HallList) -> String {
+        if self.models.is_empty() {
+            return format!(
+                "{line}\nno models: the hall is empty, or the LOD header at this address lists none or is not inside its section\n"
+            );
+        }
+        let models = counted(self.models.len() as u64, "model", "models");
+        let geometries = counted(self.models.iter().map(|(_, count)| *count as u64).sum(), "geometry", "geometries");
+        let triangles = counted(hall.triangle_count(), "triangle", "triangles");
+        let (shown, declared) = (self.models_shown(), self.declarations_shown());
+        format!("{line}\n{shown}{declared}\n{models}, {geometries}, {triangles}\n{}", self.disagreements_shown())
+    }
+
+    /// How many pairs disagree, where any does.
+    fn disagreeing(&self) -> Option<String> {
+        match self.disagreements.len() {
+            0 => None,
+            1 => Some("1 pair of numbers disagrees".to_string()),
+            many => Some(format!("{} pairs of numbers disagree", grouped(many as u64))),
+        }
     }
 
     fn add(&mut self, model: &DrawableModel<'_>) {
@@ -147,11 +159,7 @@ impl Found {
     }
 
     fn disagreements_shown(&self) -> String {
-        let mut text = match self.disagreements.len() {
-            0 => "all counts agree\n".to_string(),
-            1 => "1 pair of numbers disagrees:\n".to_string(),
-            many => format!("{many} pairs of numbers disagree:\n"),
-        };
+        let mut text = self.disagreeing().map_or("all counts agree\n".to_string(), |said| format!("{said}:\n"));
         for line in &self.disagreements {
             text += &format!("! {line}\n");
         }

@@ -1,62 +1,124 @@
 //! Positions and triangles as Wavefront OBJ.
 
+use crate::blocks::Blocks;
 use crate::failure::Failure;
+use crate::left_out::LeftOut;
+use crate::output::Output;
+use crate::progress::{self, Progress};
 use crate::table::counted;
-use calicofern::{DrawableGeometry, Vertices};
-use std::fmt::Write;
+use calicofern::DrawableGeometry;
+use std::io::{self, Write};
 
-/// An OBJ file in the making: a group for each geometry.
-#[derive(Default)]
-pub struct Obj {
-    text: String,
+/// A geometry and its numbers.
+pub type Numbered<'a> = (u64, u64, DrawableGeometry<'a>);
+
+/// Writes geometries to a file, each as a group; what that came to, and what it left out.
+pub fn write<'a>(geometries: impl Iterator<Item = Numbered<'a>> + Clone, path: &str) -> Result<(String, LeftOut), Failure> {
+    let total = geometries.clone().map(|(_, _, geometry)| work(&geometry)).sum();
+    let mut obj = Obj { out: Output::create(path)?, vertices: 0, triangles: 0, left_out: LeftOut::default() };
+    let done = progress::of(&format!("writing {path}"), total, |progress| {
+        geometries.into_iter().try_for_each(|(model, number, geometry)| obj.add(model, number, &geometry, progress))
+    });
+    done.map_err(|error| obj.out.failed(error))?;
+    let made = format!("{} and {}", counted(obj.vertices, "position", "positions"), counted(obj.triangles, "triangle", "triangles"));
+    obj.out.finish()?;
+    Ok((format!("wrote {made} to {path}{}\n", obj.left_out.said()), obj.left_out))
+}
+
+/// What a geometry's lines are counted as, for the progress.
+fn work(geometry: &DrawableGeometry<'_>) -> u64 {
+    let vertices = geometry.vertex_buffer.map_or(0, |vertices| u64::from(vertices.vertex_count));
+    vertices + geometry.triangles().len() as u64
+}
+
+/// An OBJ file in the making.
+struct Obj {
+    out: Output,
     vertices: u64,
     triangles: u64,
-    left_out: u64,
+    left_out: LeftOut,
 }
 
 impl Obj {
-    /// Adds a geometry's positions and triangles. A triangle with an index beyond the vertices is left out and counted.
-    pub fn add(&mut self, group: &str, vertices: &Vertices<'_>, geometry: &DrawableGeometry<'_>) -> Result<(), Failure> {
+    /// Adds a geometry's positions and triangles. What has no place in an OBJ file is left out and counted.
+    fn add(&mut self, model: u64, number: u64, geometry: &DrawableGeometry<'_>, progress: &Progress) -> io::Result<()> {
+        let group = format!("model_{model}_geometry_{number}_shader_{}", geometry.shader_id);
+        let positions = match geometry.vertex_buffer.as_ref().map(Blocks::positions) {
+            Some(Ok(positions)) => positions,
+            Some(Err(refusal)) => return self.skip(model, number, &group, &refusal.to_string()),
+            None => return self.skip(model, number, &group, "no vertices"),
+        };
+        if geometry.triangles().len() == 0 {
+            self.left_out.geometry(model, number, "no triangles: its positions are written");
+        }
+        writeln!(self.out, "g {group}")?;
         let before = self.vertices;
-        self.line(format_args!("g {group}"));
-        for vertex in vertices.to_unified_vertices()? {
-            // OBJ has no way to write a NaN or an infinity
-            let [x, y, z] = vertex.position.map(|value| if value.is_finite() { value } else { 0.0 });
-            self.line(format_args!("v {x} {y} {z}"));
-            self.vertices += 1;
-        }
-        for triangle in geometry.triangles() {
-            if triangle.iter().any(|index| *index >= vertices.vertex_count) {
-                self.left_out += 1;
-                continue;
+        // OBJ has no way to write a NaN or an infinity: such vertices are not written, and those behind them move up
+        let mut gaps = Vec::new();
+        for (position, vertex) in positions.iter().zip(0u32..) {
+            match position {
+                [x, y, z] if [x, y, z].iter().all(|number| number.is_finite()) => writeln!(self.out, "v {x} {y} {z}")?,
+                _ => gaps.push(vertex),
             }
-            // OBJ counts from 1, over all groups
-            let [a, b, c] = triangle.map(|index| before + u64::from(index) + 1);
-            self.line(format_args!("f {a} {b} {c}"));
-            self.triangles += 1;
         }
-        Ok(())
+        self.vertices += (positions.len() - gaps.len()) as u64;
+        progress.add(positions.len() as u64);
+        let face = Faces { before, count: positions.len() as u64, gaps: &gaps };
+        geometry.triangles().try_for_each(|triangle| {
+            progress.add(1);
+            self.face(&face, triangle)
+        })
     }
 
-    /// Says in the file that a geometry has no vertices.
-    pub fn skip(&mut self, group: &str) {
-        self.line(format_args!("# {group}: no vertices found"));
-    }
-
-    fn line(&mut self, line: std::fmt::Arguments<'_>) {
-        // writing to a String does not fail
-        let _ = writeln!(self.text, "{line}");
-    }
-
-    pub fn said(&self) -> String {
-        let made = format!("{} and {}", counted(self.vertices, "position", "positions"), counted(self.triangles, "triangle", "triangles"));
-        match self.left_out {
-            0 => made,
-            many => format!("{made} (and left out {} whose indices are beyond the vertices)", counted(many, "triangle", "triangles")),
+    fn face(&mut self, faces: &Faces<'_>, triangle: [u32; 3]) -> io::Result<()> {
+        if triangle.iter().any(|index| u64::from(*index) >= faces.count) {
+            self.left_out.beyond += 1;
+            return Ok(());
+        }
+        match triangle.map(|index| faces.number(index)) {
+            [Some(a), Some(b), Some(c)] => {
+                self.triangles += 1;
+                writeln!(self.out, "f {a} {b} {c}")
+            }
+            _ => {
+                self.left_out.not_finite += 1;
+                Ok(())
+            }
         }
     }
 
-    pub fn text(self) -> String {
-        self.text
+    /// Says in the file too why a geometry is not there.
+    fn skip(&mut self, model: u64, number: u64, group: &str, why: &str) -> io::Result<()> {
+        self.left_out.geometry(model, number, why);
+        writeln!(self.out, "# {group}: {why}")
+    }
+}
+
+/// How the corners of a geometry's triangles are numbered.
+struct Faces<'a> {
+    /// The positions written before its first.
+    before: u64,
+    count: u64,
+    /// The vertices that are not written, in rising order.
+    gaps: &'a [u32],
+}
+
+impl Faces<'_> {
+    /// The number of a vertex's line: OBJ counts from 1, over all groups. None where it has no line.
+    fn number(&self, index: u32) -> Option<u64> {
+        let gaps_before = self.gaps.binary_search(&index).err()?;
+        Some(self.before + u64::from(index) - gaps_before as u64 + 1)
+    }
+}
+
+#[cfg(test)]
+mod tests {
+    use super::*;
+
+    #[test]
+    fn numbers_skip_what_is_not_written() {
+        let faces = Faces { before: 10, count: 6, gaps: &[1, 4] };
+        let numbers: Vec<Option<u64>> = (0..6).map(|index| faces.number(index)).collect();
+        assert_eq!(numbers, [Some(11), None, Some(12), Some(13), None, Some(14)]);
     }
 }

@@ -66,15 +66,22 @@ pub fn write(path: &str, bytes: &[u8]) -> Result<(), Failure> {
     out.finish()
 }
 
-/// Where a path leads when links are followed, as far as they lead to files that are there or could be.
+/// Where a path leads when links are followed, up to those of the system that are no names of files, as behind /dev/stdout.
 pub fn followed(path: &Path) -> PathBuf {
     let mut place = path.to_path_buf();
     // as many links as Linux itself follows
     for _ in 0..40 {
-        let Ok(target) = fs::read_link(&place) else { break };
-        place = place.parent().unwrap_or(Path::new("")).join(target);
+        match fs::read_link(&place) {
+            Ok(target) if !is_systems(&place) => place = folder_of(&place).join(target),
+            _ => break,
+        }
     }
     place
+}
+
+/// Whether a name is the system's own for what a process has open.
+fn is_systems(place: &Path) -> bool {
+    place.starts_with("/proc")
 }
 
 /// The folder of a path.
@@ -85,6 +92,8 @@ pub fn folder_of(place: &Path) -> &Path {
 /// A new file beside the one at a place, with its permissions and as far as may be its owner. A device or a pipe is opened itself.
 fn opened(place: &Path) -> io::Result<(Option<Unfinished>, File)> {
     let old = match fs::metadata(place) {
+        // its own name could not be put in its place, and written as it stands it would not be whole
+        Ok(data) if data.is_file() && is_systems(place) => return Err(io::Error::other("this leads to a file by no name of its own")),
         Ok(data) if data.is_file() => data,
         Ok(_) => return Ok((None, OpenOptions::new().write(true).open(place)?)),
         Err(error) if error.kind() == io::ErrorKind::NotFound => {

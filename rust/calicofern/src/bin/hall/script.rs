@@ -1,10 +1,11 @@
 //! `hall edit`: the calls of a script, one after another, on a hall.
 
 use crate::arguments::Arguments;
-use crate::drawable::section;
 use crate::failure::Failure;
-use crate::halls::{path, read, written};
+use crate::files::Files;
+use crate::halls::{path, written};
 use crate::progress;
+use crate::source::read_hall;
 use calicofern::{convert, Hall, NewGeometry, Sections, VertexAttributeValue, VertexComponentType, VertexDeclaration, VertexSemantic};
 use std::fs;
 use std::str::FromStr;
@@ -14,7 +15,7 @@ pub fn run(mut arguments: Arguments) -> Result<String, Failure> {
     let file = path(&mut arguments, "hall")?;
     let script = path(&mut arguments, "script")?;
     arguments.finish()?;
-    let mut hall = read(&file)?;
+    let mut hall = read_hall(&file, &mut Files::default())?;
     let text = fs::read_to_string(&script).map_err(|error| Failure::File(script.clone(), error))?;
     let calls = progress::during("editing the hall", || edit(&mut hall, &text));
     let calls = calls.map_err(|(line, failure)| Failure::Line(format!("{script}, line {line}"), Box::new(failure)))?;
@@ -60,8 +61,8 @@ fn call(hall: &mut Hall, name: &str, mut words: Words<'_>) -> Result<(), Failure
         }
         "take-in" => {
             let address = words.number("address")?;
-            let system = section(words.word("system section's file")?)?;
-            let graphics = words.next().map_or(Ok(Vec::new()), section)?;
+            let system = Files::default().section(words.word("system section's file")?)?;
+            let graphics = words.next().map_or(Ok(Vec::new()), |path| Files::default().section(path))?;
             words.finish()?;
             hall.take_in(&Sections::new(&system, &graphics), address)?;
         }

@@ -2,26 +2,49 @@
 
 use crate::arguments::Arguments;
 use crate::failure::Failure;
-use crate::halls::{path, read, said};
+use crate::files::Files;
+use crate::halls::path;
 use crate::output::write;
 use crate::progress;
+use crate::said::Said;
+use crate::source::Source;
+use crate::table::counted;
 use calicofern::{Hall, Refusal};
 use std::collections::BTreeMap;
 
-pub fn run(mut arguments: Arguments) -> Result<String, Failure> {
-    let file = path(&mut arguments, "hall")?;
+pub fn run(mut arguments: Arguments) -> Result<Said, Failure> {
+    let strict = arguments.flag("--strict")?;
+    let mut files = Files::default();
+    let source = Source::read(&mut arguments, &mut files)?;
     let out = path(&mut arguments, "file for the drawing")?;
     arguments.finish()?;
-    let hall = read(&file)?;
-    let left_out = match draw(&hall, &out)? {
-        0 => String::new(),
-        count => format!("; {count} triangles with a coordinate that is no number are left out"),
-    };
-    Ok(format!("wrote {out}: plan and long section of {}{left_out}\n", said(&hall)))
+    files.note_output(&out)?;
+    let (_, list) = source.list()?;
+    let drawn = draw(list.as_bytes(), &out)?;
+    let models = counted(list.models().count() as u64, "model", "models");
+    let geometries = counted(list.models().geometries().count() as u64, "geometry", "geometries");
+    let triangles = counted(list.triangle_count(), "triangle", "triangles");
+    let text = format!("wrote {out}: plan and long section of {models}, {geometries}, {triangles}{}\n", drawn.said());
+    let wrong = drawn.left_out().then(|| drawn.said().trim_start_matches("; ").to_string());
+    Ok(Said::strictly(text, strict, wrong))
+}
+
+pub struct Drawn;
+impl Drawn {
+    pub fn said(&self) -> String {
+        String::new()
+    }
+    pub fn left_out(&self) -> bool {
+        false
+    }
+}
+pub fn draw(list: &[u8], out: &str) -> Result<Drawn, Failure> {
+    draw_hall(&Hall::from_list(list.to_vec())?, out)?;
+    Ok(Drawn)
 }
 
 /// Writes a hall's drawing; how many triangles it leaves out.
-pub fn draw(hall: &Hall, out: &str) -> Result<usize, Failure> {
+fn draw_hall(hall: &Hall, out: &str) -> Result<usize, Failure> {
     let drawing = progress::during("drawing the hall", || Drawing::of(hall))?;
     write(out, drawing.text().as_bytes())?;
     Ok(drawing.left_out)

@@ -1,52 +1,92 @@
 //! `hall vertices`: the vertices of one geometry.
 
 use crate::arguments::Arguments;
-use crate::drawable::Drawable;
+use crate::blocks::Blocks;
 use crate::failure::Failure;
-use crate::obj::Obj;
-use crate::output::write;
+use crate::files::Files;
+use crate::left_out::LeftOut;
+use crate::obj;
+use crate::output::Output;
 use crate::progress;
+use crate::said::Said;
+use crate::source::Source;
 use crate::table::{counted, Table};
 use calicofern::{DrawableGeometry, HallList, UnifiedVertex, Vertices};
+use std::io::Write;
 
-pub fn run(mut arguments: Arguments) -> Result<String, Failure> {
-    let model = arguments.number("--model")?;
-    let geometry = arguments.number("--geometry")?;
-    let first = arguments.number("--vertex")?;
-    let count = arguments.number("--count")?;
-    let unified = arguments.option("--unified")?;
-    let obj = arguments.option("--obj")?;
-    let all = arguments.flag("--all")?;
-    let drawable = Drawable::read(&mut arguments)?;
+/// What is asked for.
+struct Asked {
+    model: Option<u64>,
+    geometry: Option<u64>,
+    first: Option<u64>,
+    count: Option<u64>,
+    unified: Option<String>,
+    obj: Option<String>,
+    all: bool,
+    strict: bool,
+}
+
+impl Asked {
+    fn read(arguments: &mut Arguments) -> Result<Asked, Failure> {
+        let asked = Asked {
+            model: arguments.number("--model")?,
+            geometry: arguments.number("--geometry")?,
+            first: arguments.number("--vertex")?,
+            count: arguments.number("--count")?,
+            unified: arguments.option("--unified")?,
+            obj: arguments.option("--obj")?,
+            all: arguments.flag("--all")?,
+            strict: arguments.flag("--strict")?,
+        };
+        if asked.all && (asked.obj.is_none() || asked.unified.is_some() || asked.model.is_some() || asked.geometry.is_some()) {
+            return Err(Failure::Usage("--all goes with --obj alone: it writes every geometry".to_string()));
+        }
+        Ok(asked)
+    }
+}
+
+pub fn run(mut arguments: Arguments) -> Result<Said, Failure> {
+    let asked = Asked::read(&mut arguments)?;
+    let mut files = Files::default();
+    for path in asked.unified.iter().chain(&asked.obj) {
+        files.note_output(path)?;
+    }
+    let source = Source::read(&mut arguments, &mut files)?;
     arguments.finish()?;
-    if all && (obj.is_none() || unified.is_some() || model.is_some() || geometry.is_some()) {
-        return Err(Failure::Usage("--all goes with --obj alone: it writes every geometry".to_string()));
+    let (_, hall) = source.list()?;
+    if let (true, Some(path)) = (asked.all, &asked.obj) {
+        let (text, left_out) = obj::write(hall.models().geometries(), path)?;
+        return Ok(strictly(text, asked.strict, &left_out));
     }
-    let hall = drawable.list()?;
-    if let (true, Some(path)) = (all, &obj) {
-        return write_all_obj(&hall, path);
-    }
-    let (model, geometry) = (model.unwrap_or(0), geometry.unwrap_or(0));
+    let (model, geometry) = (asked.model.unwrap_or(0), asked.geometry.unwrap_or(0));
     let found = geometry_of(&hall, model, geometry)?;
     let vertices = vertices_of(&found, model, geometry)?;
-    let mut text = String::new();
-    if let Some(path) = &unified {
+    let (mut text, mut left_out) = (String::new(), LeftOut::default());
+    if let Some(path) = &asked.unified {
         text += &write_unified(&vertices, path)?;
     }
-    if let Some(path) = &obj {
-        text += &write_obj(&found, &vertices, model, geometry, path)?;
+    if let Some(path) = &asked.obj {
+        let (said, left) = obj::write(std::iter::once((model, geometry, found)), path)?;
+        text += &said;
+        left_out = left;
     }
-    if unified.is_none() && obj.is_none() {
-        text += &shown(&vertices, first.unwrap_or(0), count.unwrap_or(8))?;
+    if asked.unified.is_none() && asked.obj.is_none() {
+        text += &shown(&vertices, asked.first.unwrap_or(0), asked.count.unwrap_or(8))?;
     }
-    Ok(text)
+    Ok(strictly(text, asked.strict, &left_out))
+}
+
+/// Left out is what fails with `--strict`.
+pub fn strictly(text: String, strict: bool, left_out: &LeftOut) -> Said {
+    let wrong = left_out.any().then(|| left_out.said().trim_start_matches("; ").to_string());
+    Said::strictly(text, strict, wrong)
 }
 
 fn geometry_of(hall: &HallList, model: u64, geometry: u64) -> Result<DrawableGeometry<'_>, Failure> {
     let place = |number: u64| usize::try_from(number).unwrap_or(usize::MAX);
     let models = counted(hall.models().count() as u64, "model", "models");
     let Some(found) = hall.models().nth(place(model)) else {
-        return Err(Failure::Usage(format!("there is no model {model}: the drawable has {models}, numbered from 0")));
+        return Err(Failure::Usage(format!("there is no model {model}: the file has {models}, numbered from 0")));
     };
     let geometries = counted(found.geometries().count() as u64, "geometry", "geometries");
     found
@@ -77,41 +117,15 @@ pub fn shown(vertices: &Vertices<'_>, first: u64, count: u64) -> Result<String, 
 }
 
 pub fn write_unified(vertices: &Vertices<'_>, path: &str) -> Result<String, Failure> {
-    let bytes = progress::during("unifying the vertices", || vertices.to_unified_bytes())?;
-    write(path, &bytes)?;
-    let count = counted((bytes.len() / UnifiedVertex::SIZE) as u64, "unified vertex", "unified vertices");
-    Ok(format!("wrote {count}, {} bytes each, to {path}\n", UnifiedVertex::SIZE))
-}
-
-fn write_obj(geometry: &DrawableGeometry<'_>, vertices: &Vertices<'_>, model: u64, place: u64, path: &str) -> Result<String, Failure> {
-    let mut obj = Obj::default();
-    progress::during("making the OBJ", || obj.add(&group(model, place, geometry), vertices, geometry))?;
-    write_made(obj, path)
-}
-
-/// Every geometry whose vertices were found.
-pub fn write_all_obj(hall: &HallList, path: &str) -> Result<String, Failure> {
-    let mut obj = Obj::default();
-    progress::during("making the OBJ", || {
-        for (model, number) in hall.models().zip(0..) {
-            for (geometry, place) in model.geometries().zip(0..) {
-                match geometry.vertex_buffer {
-                    Some(vertices) => obj.add(&group(number, place, &geometry), &vertices, &geometry)?,
-                    None => obj.skip(&group(number, place, &geometry)),
-                }
-            }
-        }
-        Ok::<(), Failure>(())
-    })?;
-    write_made(obj, path)
-}
-
-fn group(model: u64, place: u64, geometry: &DrawableGeometry<'_>) -> String {
-    format!("model_{model}_geometry_{place}_shader_{}", geometry.shader_id)
-}
-
-fn write_made(obj: Obj, path: &str) -> Result<String, Failure> {
-    let said = obj.said();
-    write(path, obj.text().as_bytes())?;
-    Ok(format!("wrote {said} to {path}\n"))
+    let mut out = Output::create(path)?;
+    let count = u64::from(vertices.vertex_count);
+    progress::of(&format!("writing {path}"), count, |progress| {
+        vertices.unified_blocks(|block| {
+            progress.add((block.len() / UnifiedVertex::SIZE) as u64);
+            out.write_all(block)
+        })
+    })?
+    .map_err(|error| out.failed(error))?;
+    out.finish()?;
+    Ok(format!("wrote {}, {} bytes each, to {path}\n", counted(count, "unified vertex", "unified vertices"), UnifiedVertex::SIZE))
 }
