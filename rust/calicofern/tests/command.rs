@@ -358,6 +358,15 @@ fn a_hall_is_drawn() {
     assert!(drawn.starts_with("<svg ") && drawn.ends_with("</svg>\n"));
 }
 
+/// Work of more than a second says on standard error what is being done.
+#[test]
+fn slow_work_shows_progress() {
+    let slow = format!("(sleep 2.3; cat samples/shoebox.system) | {} check /dev/stdin", env!("CARGO_BIN_EXE_hall"));
+    let done = std::process::Command::new("sh").args(["-c", &slow]).current_dir(env!("CARGO_MANIFEST_DIR")).output().unwrap();
+    assert_eq!(String::from_utf8_lossy(&done.stderr), "hall: reading /dev/stdin, 1 s\nhall: reading /dev/stdin, 2 s\n");
+    assert!(done.status.success() && String::from_utf8_lossy(&done.stdout).contains("is a drawable, which taken in is a hall"));
+}
+
 #[test]
 fn help_and_version() {
     let help = printed(&["--help"]);

@@ -25,7 +25,7 @@ the models and geometries of a drawable or a hall, with every pair of counts tha
     },
     Command {
         name: "vertices",
-        usage: "hall vertices FILE [--model M] [--geometry G] [--vertex V] [--count N]",
+        usage: "hall vertices FILE [--model M] [--geometry G] [--vertex V] [--count N]\n                     [--unified OUT] [--obj OUT] [--all] [--strict]",
         text: "\
 the attributes of N vertices from V on, of one geometry (M, G, V are 0 and N is 8 where not given)
 --unified OUT   write all its vertices in one form, 84 bytes each, and print none
@@ -48,8 +48,8 @@ a hall or a drawable as an SVG drawing: plan and long section, a colour for each
         name: "check",
         usage: "hall check FILE",
         text: "\
-whether a file is a hall, in which every count agrees, or a drawable that can be taken in as one; else the
-number of the check that fails
+whether a file is a hall, in which every count agrees, or a drawable that can be taken in as one;
+else the number of the check that fails
 ",
         file: true,
     },
