@@ -383,7 +383,7 @@ fn help_and_version() {
         assert!(script.contains(&format!("\n  {call} ")), "{script}");
     }
     assert!(help.contains(&script) && help.lines().all(|line| line.len() <= 110), "{help}");
-    assert_eq!(failed(&["lits"]).1, "hall: there is no command 'lits'; did you mean list?; 'hall --help' lists them");
+    assert_eq!(failed(&["lits"]).1, "hall: there is no command 'lits', did you mean list?; 'hall --help' lists them");
     assert!(failed(&["list", "samples/shoebox", "--strickt"]).1.contains("'--strickt' is not known here; did you mean --strict?"));
     assert_eq!(printed(&["--version"]), format!("hall {}\n", env!("CARGO_PKG_VERSION")));
 }

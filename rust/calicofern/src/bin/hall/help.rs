@@ -124,7 +124,7 @@ The lines of a script. # begins a comment; whole numbers are decimal, or hexadec
   add-model BINDING MASK                      a model without geometries, at the end
   add-geometry SHADER SEMANTIC:TYPE.. vertices NUMBER.. indices INDEX..
                                               a geometry of the last model, three indices a triangle. A vertex
-                                              has its components' numbers, in the order in which they are named
+                                              has its components' numbers, in the order as written
   remove-geometry MODEL GEOMETRY
   remove-model MODEL
   set-attribute MODEL GEOMETRY VERTEX SEMANTIC NUMBER..
