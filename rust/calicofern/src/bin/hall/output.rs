@@ -55,15 +55,21 @@ impl Write for Output {
 
 /// Writes some bytes as a file.
 pub fn write(path: &str, bytes: &[u8]) -> Result<(), Failure> {
+    begun(path, bytes)?.finish()
+}
+
+/// The same but for the last step: the bytes are written, and have not taken the place of the old file yet.
+pub fn begun(path: &str, bytes: &[u8]) -> Result<Output, Failure> {
     let mut out = Output::create(path)?;
     progress::of(&format!("writing {path}"), bytes.len() as u64, |progress| {
         bytes.chunks(1 << 20).try_for_each(|part| {
             progress.add(part.len() as u64);
             out.write_all(part)
-        })
+        })?;
+        out.flush()
     })
     .map_err(|error| out.failed(error))?;
-    out.finish()
+    Ok(out)
 }
 
 /// Where a path leads when links are followed, as far as they lead to files that are there or could be.
