@@ -10,6 +10,7 @@ mod halls;
 mod halves;
 mod list;
 mod memory;
+mod nearest;
 mod obj;
 mod output;
 mod progress;
