@@ -149,6 +149,9 @@ fn a_backup_is_replaced_only_where_the_hall_can_be() {
     let (status, said) = folder.refused(&["edit", "link", "move", "--backup"]);
     assert_eq!((status, said.starts_with("hall: link~ could not be written: ")), (2, true), "{said}");
     assert_eq!(folder.corner("inside/hall"), BEFORE);
+    // the new hall, whose bytes were written already, is gone
+    let names = fs::read_dir(folder.0.join("inside")).unwrap().map(|entry| entry.unwrap().file_name());
+    assert!(names.into_iter().all(|name| name == "hall" || name == "probe"));
 }
 
 #[test]
