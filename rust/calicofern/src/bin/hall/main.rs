@@ -38,7 +38,7 @@ fn main() -> ExitCode {
     match done.and_then(printed) {
         Ok(()) => ExitCode::SUCCESS,
         Err(failure) => {
-            let _ = writeln!(io::stderr(), "hall: {failure}");
+            progress::note(&failure.to_string());
             ExitCode::from(failure.status())
         }
     }

@@ -30,6 +30,14 @@ impl Output {
         Ok(Output { path: path.to_string(), place, there, new, out: BufWriter::with_capacity(1 << 16, file) })
     }
 
+    /// The same with the permissions of another file, before it has any bytes.
+    pub fn like(path: &str, other: &str) -> Result<Output, Failure> {
+        let out = Output::create(path)?;
+        let permissions = fs::metadata(other).map(|data| data.permissions());
+        permissions.and_then(|allowed| out.out.get_ref().set_permissions(allowed)).map_err(|error| out.failed(error))?;
+        Ok(out)
+    }
+
     /// The bytes are on the disc, and the file has its name, when this returns.
     pub fn finish(self) -> Result<(), Failure> {
         let Output { path, place, there, new, out } = self;
@@ -55,15 +63,20 @@ impl Write for Output {
 
 /// Writes some bytes as a file.
 pub fn write(path: &str, bytes: &[u8]) -> Result<(), Failure> {
-    let mut out = Output::create(path)?;
-    progress::of(&format!("writing {path}"), bytes.len() as u64, |progress| {
+    begun(Output::create(path)?, bytes)?.finish()
+}
+
+/// The same but for the last step: the bytes are written, and have not taken the place of the old file yet.
+pub fn begun(mut out: Output, bytes: &[u8]) -> Result<Output, Failure> {
+    progress::of(&format!("writing {}", out.path), bytes.len() as u64, |progress| {
         bytes.chunks(1 << 20).try_for_each(|part| {
             progress.add(part.len() as u64);
             out.write_all(part)
-        })
+        })?;
+        out.flush()
     })
     .map_err(|error| out.failed(error))?;
-    out.finish()
+    Ok(out)
 }
 
 /// Where a path leads when links are followed, up to those of the system that are no names of files, as behind /dev/stdout.

@@ -1,9 +1,15 @@
 //! Progress on standard error.
 
+use std::io::{self, Write};
 use std::sync::atomic::{AtomicU64, Ordering};
 use std::sync::mpsc::{channel, RecvTimeoutError};
 use std::thread;
 use std::time::{Duration, Instant};
+
+/// A line on standard error. Whether anybody reads it makes no difference to the work.
+pub fn note(line: &str) {
+    let _ = writeln!(io::stderr(), "hall: {line}");
+}
 
 /// How far some work has come.
 pub struct Progress {
@@ -41,7 +47,7 @@ pub fn of<T>(what: &str, total: u64, work: impl FnOnce(&Progress) -> T) -> T {
         let _ = thread::Builder::new().stack_size(1 << 16).spawn_scoped(scope, move || {
             let start = Instant::now();
             while wait.recv_timeout(Duration::from_secs(1)) == Err(RecvTimeoutError::Timeout) {
-                eprintln!("hall: {what}, {} s{}", start.elapsed().as_secs(), progress.part());
+                note(&format!("{what}, {} s{}", start.elapsed().as_secs(), progress.part()));
             }
         });
         let result = work(progress);

@@ -47,6 +47,15 @@ pub fn packed(path: &str) -> Failure {
     ))
 }
 
+/// A section's bytes.
+pub fn section(path: &str, files: &mut Files) -> Result<Vec<u8>, Failure> {
+    let bytes = files.section(path)?;
+    match Kind::of(&bytes) {
+        Kind::Resource => Err(packed(path)),
+        Kind::Hall | Kind::Section => Ok(bytes),
+    }
+}
+
 /// A drawable's sections, and where in them its LOD header is.
 pub struct Drawable {
     pub system: Vec<u8>,
@@ -98,8 +107,8 @@ impl Source {
         let (graphics, at, limit) = (arguments.option("--graphics")?, arguments.number("--at")?, arguments.number("--limit")?);
         let given = Where { graphics, at, limit };
         if let Some(path) = system {
-            let bytes = files.section(&path)?;
-            let graphics = given.graphics.as_ref().map_or(Ok(Vec::new()), |path| files.section(path))?;
+            let bytes = section(&path, files)?;
+            let graphics = given.graphics.as_ref().map_or(Ok(Vec::new()), |path| section(path, files))?;
             return Ok(Source { name: path, what: given.drawable(bytes, graphics) });
         }
         let word =
@@ -109,12 +118,9 @@ impl Source {
             return Source::in_file(word, given, files);
         }
         let name = word.strip_suffix(".system").unwrap_or(&word);
-        let system = files.section(&format!("{name}.system")).map_err(|failure| missing(&word, failure))?;
-        if Kind::of(&system) == Kind::Resource {
-            return Err(packed(&format!("{name}.system")));
-        }
+        let system = section(&format!("{name}.system"), files).map_err(|failure| missing(&word, failure))?;
         let graphics = match &given.graphics {
-            Some(path) => files.section(path)?,
+            Some(path) => section(path, files)?,
             None => files.section_if_there(&format!("{name}.graphics"))?,
         };
         Ok(Source { name: word, what: given.drawable(system, graphics) })
@@ -132,7 +138,7 @@ impl Source {
             }
             Kind::Hall => What::Hall(bytes),
             Kind::Section => {
-                let graphics = given.graphics.as_ref().map_or(Ok(Vec::new()), |path| files.section(path))?;
+                let graphics = given.graphics.as_ref().map_or(Ok(Vec::new()), |path| section(path, files))?;
                 given.drawable(bytes, graphics)
             }
         };
