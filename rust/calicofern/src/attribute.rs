@@ -211,7 +211,7 @@ mod tests {
     #[test]
     fn position_only_of_stride_11_ends_after_the_first_vertex() {
         let position = VertexDeclaration::position_only(11);
-        let read = |index| attributes_of(&[0; 22], 11, 2, &position, index).map(|found| found.len()).map_err(|refusal| refusal.check());
+        let read = |index| attributes_of(&[0; 22], 11, 2, &position, index).map(|found| found.len()).map_err(|refusal| refusal.number());
         assert_eq!((read(0), read(1), read(2)), (Ok(1), Err(9), Err(8)));
         assert_eq!(read(u64::MAX), Err(8));
     }

@@ -108,7 +108,7 @@ impl Vertices<'_> {
     /// let data: Vec<u8> = [1.0f32, 2.0, 3.0].iter().flat_map(|f| f.to_le_bytes()).collect();
     /// let one = Vertices { layout: VertexBufferLayout::Gen9, vertex_stride: 12, vertex_count: 1, declaration: None, data: &data };
     /// assert_eq!(one.read_vertex_attributes(0)?[0].value, VertexAttributeValue::Float3([1.0, 2.0, 3.0]));
-    /// assert_eq!(one.read_vertex_attributes(1).unwrap_err().check(), 8);
+    /// assert_eq!(one.read_vertex_attributes(1).unwrap_err().number(), 8);
     /// # Ok::<(), calicofern::Refusal>(())
     /// ```
     pub fn read_vertex_attributes(&self, index: u64) -> Result<Vec<VertexAttribute>, Refusal> {

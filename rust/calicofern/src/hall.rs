@@ -3,8 +3,8 @@
 use crate::calls::{self, Given, Told};
 use crate::lend::{lend, ALLOCATION_LIMIT};
 use crate::{
-    hall_check, DrawableGeometry, DrawableModel, Models, Place, Refusal, Sections, UnifiedVertex, VertexAttribute, VertexAttributeValue,
-    VertexDeclaration, VertexSemantic,
+    hall_check, Check, DrawableGeometry, DrawableModel, Models, Place, Refusal, Sections, UnifiedVertex, VertexAttribute,
+    VertexAttributeValue, VertexDeclaration, VertexSemantic,
 };
 use std::fmt;
 
@@ -32,7 +32,7 @@ use std::fmt;
 /// assert_eq!(hall.list().len(), 127);
 ///
 /// let refusal = hall.replace_indices(0, 0, &[0, 1, 3]).unwrap_err();
-/// assert_eq!(refusal.check(), 18);
+/// assert_eq!(refusal.number(), 18);
 /// assert_eq!(hall.geometry(0, 0).unwrap().triangles().next(), Some([0, 1, 2]));
 /// # Ok::<(), calicofern::Refusal>(())
 /// ```
@@ -86,7 +86,7 @@ impl Hall {
     /// ```
     /// use calicofern::Hall;
     /// assert_eq!(Hall::from_list(Vec::new())?, Hall::new());
-    /// assert_eq!(Hall::from_list(vec![6, 0, 0]).unwrap_err().check(), 11);
+    /// assert_eq!(Hall::from_list(vec![6, 0, 0]).unwrap_err().number(), 11);
     /// # Ok::<(), calicofern::Refusal>(())
     /// ```
     pub fn from_list(list: Vec<u8>) -> Result<Self, Refusal> {
@@ -185,8 +185,8 @@ impl Hall {
         let done = self.edit(|hall, n| calls::add_geometry(hall, n, given));
         done.map_err(|refusal| {
             refusal
-                .saying(11, "the vertices' bytes are not their count times their stride")
-                .saying(21, "there is no model to add a geometry to: add a model first")
+                .saying(Check::Records, "the vertices' bytes are not their count times their stride")
+                .saying(Check::Target, "there is no model to add a geometry to: add a model first")
         })
     }
 
@@ -205,7 +205,7 @@ impl Hall {
     /// hall.add_model(0, 2)?;
     /// hall.remove_model(0)?;
     /// assert_eq!(hall.models().next().unwrap().render_mask_flags, 2);
-    /// assert_eq!(hall.remove_model(1).unwrap_err().check(), 21);
+    /// assert_eq!(hall.remove_model(1).unwrap_err().number(), 21);
     /// # Ok::<(), calicofern::Refusal>(())
     /// ```
     pub fn remove_model(&mut self, model: u64) -> Result<(), Refusal> {
@@ -249,7 +249,7 @@ impl Hall {
     /// Refused by checks 1 to 6 as [`Sections::hall_list`], and by 11 to 19 where what is there is no hall; 11 where a geometry lacks vertices or indices.
     pub fn take_in(&mut self, sections: &Sections<'_>, at: u64) -> Result<(), Refusal> {
         let done = self.edit(|hall, n| calls::take_in(hall, n, sections.system, sections.graphics, at));
-        done.map_err(|refusal| refusal.saying(11, "a geometry lacks its vertices or its indices: in a hall each has both"))
+        done.map_err(|refusal| refusal.saying(Check::Records, "a geometry lacks its vertices or its indices: in a hall each has both"))
     }
 
     /// The hall as a drawable's system section, its LOD header at [`Sections::SYSTEM`] and the graphics section empty. Taken in from there, it is the same

@@ -1,6 +1,7 @@
 //! What a call that cannot be done answers.
 
 use crate::calls::Told;
+use crate::Check;
 use std::fmt;
 
 /// Where in a hall a check failed. Models, the geometries of a model, and vertices are counted from 0.
@@ -32,7 +33,7 @@ impl fmt::Display for Place {
 /// use calicofern::Sections;
 /// # let system = std::fs::read(concat!(env!("CARGO_MANIFEST_DIR"), "/samples/shoebox.system")).unwrap();
 /// let refusal = Sections::new(&system, &[]).hall_list_into(Sections::SYSTEM, &mut [0; 100]).unwrap_err();
-/// assert_eq!(refusal.check(), 7);
+/// assert_eq!(refusal.number(), 7);
 /// let needed = refusal.needed().unwrap();
 /// assert_eq!(
 ///     refusal.to_string(),
@@ -41,7 +42,7 @@ impl fmt::Display for Place {
 /// ```
 #[derive(Debug, Clone, Copy, PartialEq, Eq)]
 pub struct Refusal {
-    check: u8,
+    check: Check,
     needed: u64,
     lent: u64,
     /// Whether `lent` is a limit on what would have been allocated.
@@ -52,9 +53,14 @@ pub struct Refusal {
 }
 
 impl Refusal {
-    /// The number of the check that failed, 1 to 24.
-    pub fn check(&self) -> u8 {
+    /// The check that failed.
+    pub fn check(&self) -> Check {
         self.check
+    }
+
+    /// The number of the check that failed, 1 to 24.
+    pub fn number(&self) -> u8 {
+        self.check.number()
     }
 
     /// Where it failed, if that is known: what a call named, or for checks 12 to 18 of a list the first place whose numbers disagree.
@@ -64,7 +70,7 @@ impl Refusal {
 
     /// The bytes that the output needs, for checks 7, 10, 20 and 24.
     pub fn needed(&self) -> Option<u64> {
-        matches!(self.check, 7 | 10 | 20 | 24).then_some(self.needed)
+        self.check.needs_bytes().then_some(self.needed)
     }
 
     /// The bytes that the output had, or was allowed to have, for checks 7, 10, 20 and 24.
@@ -74,37 +80,7 @@ impl Refusal {
 
     /// What the check asks for, in words, without its number, the bytes and the place.
     pub fn text(&self) -> &'static str {
-        self.text.unwrap_or(Refusal::text_of(self.check))
-    }
-
-    fn text_of(check: u8) -> &'static str {
-        match check {
-            1 => "a section is too long: the system and the graphics section may have 67108864 bytes each",
-            2 => "the list of model pointers is not inside its section: the address and the count in the LOD header must lead to it",
-            3 => "a model is not inside its section: each model pointer that is not 0 must lead to 48 bytes",
-            4 => "a model's list of geometry pointers is not inside its section: the model's address and count must lead to it",
-            5 => "there are too many geometries: a list holds at most 16384",
-            6 => "a geometry is not inside its section: each geometry pointer that is not 0 must lead to 152 bytes",
-            7 => "the buffer for the list is too short",
-            8 => "there is no such vertex: its index must be below the number of vertices",
-            9 => "a vertex is not inside its data: every component that has bytes must end inside the vertex data",
-            10 => "the output is too short",
-            11 => "the list is not made of whole records in order: a model, then its geometries as kinds 2, 3, 4 and 5, each record as long as its own numbers say",
-            12 => "a model's mapping is not the list of its geometries' shader ids: it needs one entry for each geometry, in their order",
-            13 => "there are too many models or geometries: a hall has at most 256 models and 16384 geometries",
-            14 => "strides or layout disagree: the strides of geometry, declaration and vertex buffer must be equal and the layout 0, Legacy",
-            15 => "a declaration does not fit its vertices: it must declare a position that has bytes, and all components must fit into the stride",
-            16 => "vertex counts disagree: a geometry and its vertex buffer must have the same count, 1 to 65535",
-            17 => "index counts disagree: a geometry's count, its index buffer's count, the indices there are and 3 for each triangle must be equal, and at least 3",
-            18 => "an index names no vertex: each must be below the number of vertices",
-            19 => "the hall is too large to be saved: its image may have 67108864 bytes",
-            20 => "the buffer for the image is too short",
-            21 => "there is no such model, geometry or vertex: each is counted from 0, and a geometry can only be added where there is a model",
-            22 => "the vertices have no such attribute: the geometry's declaration must have this semantic, with a type that has bytes",
-            23 => "the value has not the shape of the attribute's type: Float wants one float, Half2 and Float2 two, Float3 three, Half4, Float4 and RGBA8SNorm four, UByte4 and Colour four bytes",
-            24 => "the buffer for the hall is too short",
-            _ => "a check that this version does not know",
-        }
+        self.text.unwrap_or(self.check.text())
     }
 
     /// The library's answer as a result: the bytes written, or the refusal of a call that lent so many bytes.
@@ -112,13 +88,15 @@ impl Refusal {
         match told {
             // what was written lies in the output, so its length is a usize
             Told { check: 0, size } => Ok(size as usize),
-            Told { check, size } => Err(Refusal { check, needed: size, lent: lent as u64, limit: false, place: None, text: None }),
+            Told { check, size } => {
+                Err(Refusal { check: Check::from_number(check), needed: size, lent: lent as u64, limit: false, place: None, text: None })
+            }
         }
     }
 
     /// Check 21 at a place of a hall.
     pub(crate) fn absent(place: Place) -> Refusal {
-        Refusal { check: 21, needed: 0, lent: 0, limit: false, place: Some(place), text: None }
+        Refusal { check: Check::Target, needed: 0, lent: 0, limit: false, place: Some(place), text: None }
     }
 
     /// The same refusal where no more than so many bytes may be allocated.
@@ -132,7 +110,7 @@ impl Refusal {
     }
 
     /// The same refusal, with other words if it is by this check.
-    pub(crate) fn saying(self, check: u8, text: &'static str) -> Refusal {
+    pub(crate) fn saying(self, check: Check, text: &'static str) -> Refusal {
         if self.check == check {
             Refusal { text: Some(text), ..self }
         } else {
@@ -143,7 +121,7 @@ impl Refusal {
 
 impl fmt::Display for Refusal {
     fn fmt(&self, out: &mut fmt::Formatter<'_>) -> fmt::Result {
-        write!(out, "check {}: {}", self.check, self.text())?;
+        write!(out, "{}: {}", self.check, self.text())?;
         self.place.map_or(Ok(()), |place| write!(out, ": {place}"))?;
         match (self.needed(), self.lent()) {
             (Some(needed), Some(limit)) if self.limit => write!(out, ": {needed} bytes are needed, and the limit is {limit}"),
@@ -169,16 +147,6 @@ mod tests {
     }
 
     #[test]
-    fn each_check_has_its_own_line() {
-        let lines: Vec<String> = (1..=24).map(|check| format!("check {check}: {}", refusal(check, 0, 0).text())).collect();
-        for (line, check) in lines.iter().zip(1..) {
-            let text = line.strip_prefix(&format!("check {check}: ")).unwrap_or_else(|| panic!("{line}"));
-            assert!(!text.contains('\n') && text != refusal(25, 0, 0).text(), "{line}");
-            assert_eq!(lines.iter().filter(|other| other.ends_with(text)).count(), 1, "{line}");
-        }
-    }
-
-    #[test]
     fn bytes_are_told_where_an_output_is_too_short() {
         let line = "check 7: the buffer for the list is too short: 127 bytes are needed, 100 were lent";
         assert_eq!(refusal(7, 127, 100).to_string(), line);
@@ -201,7 +169,7 @@ mod tests {
         assert_eq!(refused.place(), Some(place));
         let line = "check 18: an index names no vertex: each must be below the number of vertices: model 1, geometry 2, vertex 3";
         assert_eq!(refused.to_string(), line);
-        assert_eq!(refused.saying(11, "other words"), refused);
-        assert_eq!(refused.saying(18, "other words").at(None).to_string(), "check 18: other words");
+        assert_eq!(refused.saying(Check::Records, "other words"), refused);
+        assert_eq!(refused.saying(Check::IndexRange, "other words").at(None).to_string(), "check 18: other words");
     }
 }

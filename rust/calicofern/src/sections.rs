@@ -43,7 +43,7 @@ impl<'a> Sections<'a> {
     /// header[..8].copy_from_slice(&0x5000_1000u64.to_le_bytes());
     /// header[8] = 1;
     /// let refusal = Sections::new(&header, &[]).hall_list(Sections::SYSTEM).unwrap_err();
-    /// assert_eq!(refusal.check(), 2);
+    /// assert_eq!(refusal.number(), 2);
     /// # Ok::<(), calicofern::Refusal>(())
     /// ```
     pub fn hall_list(&self, at: u64) -> Result<HallList, Refusal> {

@@ -110,7 +110,7 @@ mod tests {
     #[test]
     fn the_last_vertex_must_be_inside_the_data() {
         let refusal = vertices(None, 11, 2, &[0; 22]).to_unified_vertices().unwrap_err();
-        assert_eq!((refusal.check(), refusal.needed()), (9, None));
+        assert_eq!((refusal.number(), refusal.needed()), (9, None));
         assert_eq!(vertices(None, 12, 2, &[0; 24]).to_unified_vertices().unwrap().len(), 2);
     }
 
@@ -118,7 +118,7 @@ mod tests {
     fn a_short_output_is_not_touched() {
         let mut out = [5; 100];
         let refusal = vertices(None, 12, 2, &[0; 24]).unify_into(&mut out).unwrap_err();
-        assert_eq!((refusal.check(), refusal.needed(), refusal.lent()), (10, Some(168), Some(100)));
+        assert_eq!((refusal.number(), refusal.needed(), refusal.lent()), (10, Some(168), Some(100)));
         assert_eq!(out, [5; 100]);
         assert_eq!(vertices(None, 12, 1, &[0; 24]).unify_into(&mut out), Ok(84));
         assert_eq!(out[84..], [5; 16]);
@@ -128,7 +128,7 @@ mod tests {
     fn more_vertices_than_the_limit_are_refused() {
         // 2^32 - 1 vertices that all lie at the same place
         let refusal = vertices(None, 0, u32::MAX, &[0; 12]).to_unified_vertices().unwrap_err();
-        assert_eq!((refusal.check(), refusal.needed()), (10, Some(84 * u64::from(u32::MAX))));
+        assert_eq!((refusal.number(), refusal.needed()), (10, Some(84 * u64::from(u32::MAX))));
         assert_eq!(refusal.lent(), Some(crate::ALLOCATION_LIMIT as u64));
     }
 }

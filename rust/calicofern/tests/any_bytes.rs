@@ -79,7 +79,7 @@ fn drawables_with_changed_bytes() {
         }
         match Sections::new(&system, &graphics).hall_list_within(Sections::SYSTEM, 1 << 22) {
             Ok(hall) => refused[0] += u64::from(read_all(hall.as_bytes()) > 0),
-            Err(refusal) => refused[usize::from(refusal.check())] += 1,
+            Err(refusal) => refused[usize::from(refusal.number())] += 1,
         }
     }
     assert!(refused[0] > 1000 && refused.iter().filter(|count| **count > 0).count() > 3, "{refused:?}");

@@ -37,7 +37,7 @@ fn refused(hall: &mut Hall, edit: impl Fn(&mut Hall) -> Result<(), calicofern::R
     let refusal = edit(hall).unwrap_err();
     assert_eq!(*hall, before);
     assert_eq!(hall.list(), before.list());
-    (refusal.check(), refusal.place(), refusal.to_string())
+    (refusal.number(), refusal.place(), refusal.to_string())
 }
 
 fn place(model: u64, geometry: Option<u64>, vertex: Option<u64>) -> Option<Place> {
@@ -70,7 +70,7 @@ fn a_list_is_a_hall_or_is_refused_with_its_place() {
         let mut list = list.clone();
         list[at] = value;
         let refusal = Hall::from_list(list).unwrap_err();
-        (refusal.check(), refusal.place())
+        (refusal.number(), refusal.place())
     };
     // triangle count, vertex count, stride, type of the position, an index
     let geometry = place(0, Some(0), None);
@@ -82,7 +82,7 @@ fn a_list_is_a_hall_or_is_refused_with_its_place() {
     // the mapping's entry, the first record's length
     assert_eq!(changed(12, 6), (12, None));
     assert_eq!(changed(0, 7), (11, None));
-    assert_eq!(Hall::from_list(list[..126].to_vec()).unwrap_err().check(), 11);
+    assert_eq!(Hall::from_list(list[..126].to_vec()).unwrap_err().number(), 11);
 }
 
 #[test]
@@ -123,8 +123,8 @@ fn what_is_not_there_is_refused_with_its_place() {
     assert_eq!((check, where_it_was), (21, place(0, Some(0), Some(3))));
     assert!(line.ends_with(": model 0, geometry 0, vertex 3"), "{line}");
     assert_eq!(hall.attributes(0, 0, 3).unwrap_err().place(), place(0, Some(0), Some(3)));
-    assert_eq!(hall.attributes(0, 1, 0).unwrap_err().check(), 21);
-    assert_eq!(hall.unified_vertices(1, 0).unwrap_err().check(), 21);
+    assert_eq!(hall.attributes(0, 1, 0).unwrap_err().number(), 21);
+    assert_eq!(hall.unified_vertices(1, 0).unwrap_err().number(), 21);
 
     let (check, _, line) = refused(&mut Hall::new(), |hall| hall.add_geometry(triangle(&[0; 36], &[0, 1, 2])));
     assert_eq!((check, line.as_str()), (21, "check 21: there is no model to add a geometry to: add a model first"));
@@ -349,7 +349,7 @@ fn a_lent_image_is_long_enough_or_untouched() {
     let hall = one_triangle();
     let mut out = [7; 600];
     let refusal = hall.save_into(&mut out[..575]).unwrap_err();
-    assert_eq!((refusal.check(), refusal.needed(), refusal.lent()), (20, Some(576), Some(575)));
+    assert_eq!((refusal.number(), refusal.needed(), refusal.lent()), (20, Some(576), Some(575)));
     assert_eq!(refusal.to_string(), "check 20: the buffer for the image is too short: 576 bytes are needed, 575 were lent");
     assert_eq!(out, [7; 600]);
     assert_eq!(hall.save_into(&mut out), Ok(576));
