@@ -100,6 +100,12 @@ impl VertexDeclaration {
         vertex.unwrap_or_default().into_iter().map(|attribute| attribute.component).collect()
     }
 
+    /// Whether it declares a position that has bytes.
+    pub(crate) fn has_position(&self) -> bool {
+        let position = self.components().into_iter().find(|component| component.semantic == VertexSemantic::Position);
+        position.is_some_and(|position| position.component_type.size_in_bytes() > 0)
+    }
+
     /// The bytes of its components together.
     pub fn size_in_bytes(&self) -> u16 {
         self.components().iter().map(|component| u16::from(component.component_type.size_in_bytes())).sum()

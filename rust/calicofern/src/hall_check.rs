@@ -1,13 +1,13 @@
 //! Whether a list is a hall.
 
 use crate::calls::{self, Told};
-use crate::{Check, Disagreement, Models, Place, Refusal};
+use crate::{reason, Refusal};
 
 /// Whether these bytes are a hall: the list of its models and geometries, in which every count agrees. Otherwise the lowest of checks 11 to 19
-/// that fails anywhere in it, with its place where two numbers of a model or a geometry disagree.
+/// that fails anywhere in it, for 12 and 14 to 18 with the first place that fails it and the numbers there.
 ///
 /// ```
-/// use calicofern::{hall_check, Sections};
+/// use calicofern::{hall_check, Check, Sections};
 ///
 /// # let system = std::fs::read(concat!(env!("CARGO_MANIFEST_DIR"), "/samples/shoebox.system")).unwrap();
 /// let hall = Sections::new(&system, &[]).hall_list(Sections::SYSTEM).unwrap();
@@ -18,32 +18,14 @@ use crate::{Check, Disagreement, Models, Place, Refusal};
 /// let mut list = hall.into_bytes();
 /// list[geometry + 12] += 1;
 /// let refusal = hall_check(&list).unwrap_err();
-/// assert_eq!(refusal.number(), 17);
+/// assert_eq!(refusal.check(), Check::IndexCounts);
 /// assert!(refusal.to_string().starts_with("check 17: index counts disagree"));
-/// assert!(refusal.to_string().ends_with(": model 0, geometry 0"));
+/// assert!(refusal.to_string().ends_with(": model 0, geometry 0: index count 300, but 3 x triangle count 303"));
 ///
 /// // A list that ends inside a record is none.
-/// assert_eq!(hall_check(&list[..20]).unwrap_err().number(), 11);
+/// assert_eq!(hall_check(&list[..20]).unwrap_err().check(), Check::Records);
 /// ```
 pub fn hall_check(list: &[u8]) -> Result<(), Refusal> {
-    let check = calls::hall_check(list);
-    Refusal::told(Told { check, size: 0 }, list.len()).map(|_| ()).map_err(|refusal| refusal.at(place_of(refusal.check(), list)))
-}
-
-/// The first model or geometry with two numbers that disagree by this check. What is not ordered has no numbers, and checks 13 and 19 are about all.
-fn place_of(check: Check, list: &[u8]) -> Option<Place> {
-    if matches!(check, Check::Records | Check::Limits | Check::ImageLength) {
-        return None;
-    }
-    let fails = |pairs: Vec<Disagreement>| pairs.iter().any(|pair| pair.check == Some(check));
-    for (model, number) in Models::of(list).zip(0..) {
-        let place = Place { model: number, geometry: None, vertex: None };
-        if fails(model.disagreements()) {
-            return Some(place);
-        }
-        if let Some((_, geometry)) = model.geometries().zip(0..).find(|(geometry, _)| fails(geometry.disagreements())) {
-            return Some(Place { geometry: Some(geometry), ..place });
-        }
-    }
-    None
+    let told = Told { check: calls::hall_check(list), size: 0 };
+    Refusal::told(told, list.len()).map(|_| ()).map_err(|refusal| reason::of_list(refusal.check(), list))
 }

@@ -1,11 +1,13 @@
 //! What a call that cannot be done answers.
 
 use crate::calls::Told;
+use crate::detail::{behind, Detail};
 use crate::Check;
 use std::fmt;
 
 /// Where in a hall a check failed. Models, the geometries of a model, and vertices are counted from 0.
-#[derive(Debug, Clone, Copy, PartialEq, Eq)]
+#[derive(Debug, Clone, Copy, PartialEq, Eq, PartialOrd, Ord, Hash)]
+#[non_exhaustive]
 pub struct Place {
     /// The model's number.
     pub model: u64,
@@ -13,6 +15,18 @@ pub struct Place {
     pub geometry: Option<u64>,
     /// The number of the vertex in its geometry.
     pub vertex: Option<u64>,
+}
+
+impl Place {
+    /// A model, a geometry of it or a vertex of that one.
+    ///
+    /// ```
+    /// let place = calicofern::Place::new(1, Some(2), None);
+    /// assert_eq!(place.to_string(), "model 1, geometry 2");
+    /// ```
+    pub fn new(model: u64, geometry: Option<u64>, vertex: Option<u64>) -> Self {
+        Place { model, geometry, vertex }
+    }
 }
 
 /// `model 1, geometry 2, vertex 3`.
@@ -43,13 +57,8 @@ impl fmt::Display for Place {
 #[derive(Debug, Clone, Copy, PartialEq, Eq)]
 pub struct Refusal {
     check: Check,
-    needed: u64,
-    lent: u64,
-    /// Whether `lent` is a limit on what would have been allocated.
-    limit: bool,
     place: Option<Place>,
-    /// What the check asks for in this call, where that can be said more closely.
-    text: Option<&'static str>,
+    detail: Detail,
 }
 
 impl Refusal {
@@ -63,70 +72,77 @@ impl Refusal {
         self.check.number()
     }
 
-    /// Where it failed, if that is known: what a call named, or for checks 12 to 18 of a list the first place whose numbers disagree.
+    /// Where it failed, if that is known: what a call named, or for checks 12 to 18 of a list the first place that fails it.
     pub fn place(&self) -> Option<Place> {
         self.place
     }
 
     /// The bytes that the output needs, for checks 7, 10, 20 and 24.
     pub fn needed(&self) -> Option<u64> {
-        self.check.needs_bytes().then_some(self.needed)
+        match self.detail {
+            Detail::Bytes { needed, .. } => Some(needed),
+            _ => None,
+        }
     }
 
     /// The bytes that the output had, or was allowed to have, for checks 7, 10, 20 and 24.
     pub fn lent(&self) -> Option<u64> {
-        self.needed().map(|_| self.lent)
+        match self.detail {
+            Detail::Bytes { lent, .. } => Some(lent),
+            _ => None,
+        }
     }
 
-    /// What the check asks for, in words, without its number, the bytes and the place.
+    /// What the check asks for, in words, without its number, the place and the numbers that are wrong.
     pub fn text(&self) -> &'static str {
-        self.text.unwrap_or(self.check.text())
+        match self.detail {
+            Detail::Words(words) => words,
+            _ => self.check.text(),
+        }
     }
 
     /// The library's answer as a result: the bytes written, or the refusal of a call that lent so many bytes.
     pub(crate) fn told(told: Told, lent: usize) -> Result<usize, Refusal> {
-        match told {
-            // what was written lies in the output, so its length is a usize
-            Told { check: 0, size } => Ok(size as usize),
-            Told { check, size } => {
-                Err(Refusal { check: Check::from_number(check), needed: size, lent: lent as u64, limit: false, place: None, text: None })
-            }
-        }
+        // what was written lies in the output, so its length is a usize
+        let check = match told.check {
+            0 => return Ok(told.size as usize),
+            number => Check::from_number(number),
+        };
+        Err(match check.needs_bytes() {
+            true => Refusal::of(check).because(Detail::Bytes { needed: told.size, lent: lent as u64, limit: false }),
+            false => Refusal::of(check),
+        })
     }
 
-    /// Check 21 at a place of a hall.
-    pub(crate) fn absent(place: Place) -> Refusal {
-        Refusal { check: Check::Target, needed: 0, lent: 0, limit: false, place: Some(place), text: None }
+    /// A refusal of which no more is known.
+    pub(crate) fn of(check: Check) -> Refusal {
+        Refusal { check, place: None, detail: Detail::Nothing }
     }
 
     /// The same refusal where no more than so many bytes may be allocated.
     pub(crate) fn with_limit(self, limit: usize) -> Refusal {
-        Refusal { lent: limit as u64, limit: true, ..self }
+        match self.detail {
+            Detail::Bytes { needed, .. } => self.because(Detail::Bytes { needed, lent: limit as u64, limit: true }),
+            _ => self,
+        }
     }
 
     /// The same refusal at a place.
-    pub(crate) fn at(self, place: Option<Place>) -> Refusal {
-        Refusal { place, ..self }
+    pub(crate) fn at(self, place: Place) -> Refusal {
+        Refusal { place: Some(place), ..self }
     }
 
-    /// The same refusal, with other words if it is by this check.
-    pub(crate) fn saying(self, check: Check, text: &'static str) -> Refusal {
-        if self.check == check {
-            Refusal { text: Some(text), ..self }
-        } else {
-            self
-        }
+    /// The same refusal with what else is known of it.
+    pub(crate) fn because(self, detail: Detail) -> Refusal {
+        Refusal { detail, ..self }
     }
 }
 
 impl fmt::Display for Refusal {
     fn fmt(&self, out: &mut fmt::Formatter<'_>) -> fmt::Result {
-        write!(out, "{}: {}", self.check, self.text())?;
-        self.place.map_or(Ok(()), |place| write!(out, ": {place}"))?;
-        match (self.needed(), self.lent()) {
-            (Some(needed), Some(limit)) if self.limit => write!(out, ": {needed} bytes are needed, and the limit is {limit}"),
-            (Some(needed), Some(lent)) => write!(out, ": {needed} bytes are needed, {lent} were lent"),
-            _ => Ok(()),
+        match self.detail.line(self.place) {
+            Some(line) => write!(out, "{}: {line}", self.check),
+            None => write!(out, "{}: {}{}{}", self.check, self.check.text(), behind(self.place), self.detail),
         }
     }
 }
@@ -165,11 +181,16 @@ mod tests {
         let place = Place { model: 1, geometry: Some(2), vertex: Some(3) };
         assert_eq!(place.to_string(), "model 1, geometry 2, vertex 3");
         assert_eq!(Place { geometry: None, vertex: None, ..place }.to_string(), "model 1");
-        let refused = refusal(18, 0, 0).at(Some(place));
+        let refused = refusal(18, 0, 0).at(place);
         assert_eq!(refused.place(), Some(place));
         let line = "check 18: an index names no vertex: each must be below the number of vertices: model 1, geometry 2, vertex 3";
         assert_eq!(refused.to_string(), line);
-        assert_eq!(refused.saying(Check::Records, "other words"), refused);
-        assert_eq!(refused.saying(Check::IndexRange, "other words").at(None).to_string(), "check 18: other words");
+        assert_eq!(refused.because(Detail::Words("other words")).to_string(), "check 18: other words");
+        assert_eq!(refused.because(Detail::Words("other words")).text(), "other words");
+    }
+
+    #[test]
+    fn a_refusal_is_small() {
+        assert!(size_of::<Refusal>() <= 104, "{}", size_of::<Refusal>());
     }
 }

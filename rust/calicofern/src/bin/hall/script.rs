@@ -267,7 +267,9 @@ mod tests {
         // what the library refuses
         assert!(failing("add-geometry 5 Position:Float3 vertices 0 0 0 indices 0 0 0").1.starts_with("check 21: "));
         assert!(failing(&format!("{TRIANGLE}replace-indices 0 0 0 1 3")).1.starts_with("check 18: "));
-        assert!(failing(&format!("{TRIANGLE}set-attribute 0 0 3 Position 0 0 0")).1.ends_with(": model 0, geometry 0, vertex 3"));
+        assert!(failing(&format!("{TRIANGLE}set-attribute 0 0 3 Position 0 0 0"))
+            .1
+            .starts_with("check 21: there is no vertex 3 of model 0, geometry 0"));
         assert!(failing(&format!("{TRIANGLE}set-attribute 0 0 0 Position 0 0")).1.starts_with("check 23: "));
         assert!(failing(&format!("{TRIANGLE}set-attribute 0 0 0 Normal 0 0 0")).1.starts_with("check 22: "));
     }
