@@ -5,8 +5,8 @@ use crate::bytes::{u16_at, u32_at, u64_at, u8_at};
 use crate::{calls, VertexComponentType, VertexSemantic};
 use std::fmt;
 
-/// What each vertex of a buffer has: a flag for each semantic, and a type for each flag.
-#[derive(Debug, Clone, Copy, PartialEq, Eq)]
+/// What each vertex of a buffer has: a flag for each semantic, and a type for each flag. The default has none.
+#[derive(Debug, Clone, Copy, Default, PartialEq, Eq, PartialOrd, Ord, Hash)]
 pub struct VertexDeclaration {
     /// Bit i, 0 to 15: each vertex has a component of semantic i. The bits above mean nothing.
     pub flags: u32,
@@ -21,7 +21,7 @@ pub struct VertexDeclaration {
 }
 
 /// One component of a declaration.
-#[derive(Debug, Clone, Copy, PartialEq, Eq)]
+#[derive(Debug, Clone, Copy, PartialEq, Eq, PartialOrd, Ord, Hash)]
 pub struct VertexComponent {
     /// What it means.
     pub semantic: VertexSemantic,
@@ -56,7 +56,7 @@ impl VertexDeclaration {
     /// assert_eq!((declaration.stride, declaration.count), (16, 2));
     /// ```
     pub fn of(components: &[(VertexSemantic, VertexComponentType)]) -> Self {
-        let mut made = VertexDeclaration { flags: 0, stride: 0, unknown_6h: 0, count: 0, types: 0 };
+        let mut made = VertexDeclaration::default();
         for (semantic, component_type) in components {
             let (place, nibble) = (u32::from(semantic.index()), component_type.nibble());
             if place < 16 && nibble < 11 {

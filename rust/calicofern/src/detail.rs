@@ -8,7 +8,7 @@ use std::fmt;
 pub type Number = (&'static str, u64);
 
 /// What a call named and a hall has not.
-#[derive(Debug, Clone, Copy, PartialEq, Eq)]
+#[derive(Debug, Clone, Copy, PartialEq, Eq, Hash)]
 pub enum Level {
     Model,
     Geometry,
@@ -16,14 +16,14 @@ pub enum Level {
 }
 
 /// What a geometry of a drawable lacks.
-#[derive(Debug, Clone, Copy, PartialEq, Eq)]
+#[derive(Debug, Clone, Copy, PartialEq, Eq, Hash)]
 pub enum Lacking {
     Vertices,
     Indices,
     Both,
 }
 
-#[derive(Debug, Clone, Copy, PartialEq, Eq)]
+#[derive(Debug, Clone, Copy, PartialEq, Eq, Hash)]
 pub enum Detail {
     Nothing,
     /// An output that is too short. `limit`: whether `lent` is a limit on what would have been allocated.

@@ -4,7 +4,8 @@ use crate::{Check, DrawableGeometry};
 use std::fmt;
 
 /// Two numbers of a model or a geometry that ought to agree and do not.
-#[derive(Debug, Clone, Copy, PartialEq, Eq)]
+#[derive(Debug, Clone, Copy, PartialEq, Eq, PartialOrd, Ord, Hash)]
+#[non_exhaustive]
 pub struct Disagreement {
     /// The check of a sound hall that the pair would fail, 11 to 18; `None` where no check asks.
     pub check: Option<Check>,
@@ -39,9 +40,16 @@ fn at_most(check: Check, one: Number, other: Number) -> Option<Disagreement> {
 
 pub fn geometry_disagreements(geometry: &DrawableGeometry<'_>) -> Vec<Disagreement> {
     let mut found = index_disagreements(geometry);
+    found.extend(highest_disagreement(geometry));
     found.extend(vertex_disagreements(geometry));
     found.extend(declaration_disagreements(geometry));
     found
+}
+
+/// The first pair that fails one of checks 11 and 14 to 17, for which no index has to be looked at.
+pub fn count_disagreement(check: Check, geometry: &DrawableGeometry<'_>) -> Option<Disagreement> {
+    let found = [index_disagreements(geometry), vertex_disagreements(geometry), declaration_disagreements(geometry)];
+    found.into_iter().flatten().find(|pair| pair.check == Some(check))
 }
 
 fn index_disagreements(geometry: &DrawableGeometry<'_>) -> Vec<Disagreement> {
@@ -54,15 +62,15 @@ fn index_disagreements(geometry: &DrawableGeometry<'_>) -> Vec<Disagreement> {
             let held = ("indices found", buffer.indices().len() as u64);
             found.push(equal(Check::IndexCounts, stored, count));
             found.push(equal(Check::IndexCounts, count, held));
-            let highest = buffer.indices().max();
-            if let (Some(vertices), Some(highest)) = (geometry.vertex_buffer, highest) {
-                let needed = ("highest index + 1", u64::from(highest) + 1);
-                found.push(at_most(Check::IndexRange, needed, ("vertices found", u64::from(vertices.vertex_count))));
-            }
         }
         None => found.push(equal(Check::Records, stored, ("indices found", 0))),
     }
     found.into_iter().flatten().collect()
+}
+
+fn highest_disagreement(geometry: &DrawableGeometry<'_>) -> Option<Disagreement> {
+    let needed = ("highest index + 1", u64::from(geometry.index_buffer?.indices().max()?) + 1);
+    at_most(Check::IndexRange, needed, ("vertices found", u64::from(geometry.vertex_buffer?.vertex_count)))
 }
 
 fn vertex_disagreements(geometry: &DrawableGeometry<'_>) -> Vec<Disagreement> {

@@ -44,7 +44,7 @@ pub struct Hall {
 }
 
 /// A geometry to be added: what it is made of. Its counts of indices and triangles follow from its indices.
-#[derive(Debug, Clone, Copy, PartialEq, Eq)]
+#[derive(Debug, Clone, Copy, PartialEq, Eq, Hash)]
 pub struct NewGeometry<'a> {
     /// Its shader id.
     pub shader_id: u16,
@@ -336,6 +336,12 @@ impl PartialEq for Hall {
 }
 
 impl Eq for Hall {}
+
+impl std::hash::Hash for Hall {
+    fn hash<H: std::hash::Hasher>(&self, state: &mut H) {
+        self.list().hash(state);
+    }
+}
 
 impl fmt::Debug for Hall {
     fn fmt(&self, out: &mut fmt::Formatter<'_>) -> fmt::Result {

@@ -20,7 +20,7 @@ use crate::{reason, Refusal};
 /// let refusal = hall_check(&list).unwrap_err();
 /// assert_eq!(refusal.check(), Check::IndexCounts);
 /// assert!(refusal.to_string().starts_with("check 17: index counts disagree"));
-/// assert!(refusal.to_string().ends_with(": model 0, geometry 0: index count 300, but 3 x triangle count 303"));
+/// assert!(refusal.to_string().ends_with(": model 0, geometry 0: index count 240, but 3 x triangle count 243"));
 ///
 /// // A list that ends inside a record is none.
 /// assert_eq!(hall_check(&list[..20]).unwrap_err().check(), Check::Records);

@@ -32,7 +32,9 @@
 //! | save a hall as a drawable | [`Hall::save`] |
 //! | see where its counts disagree | [`DrawableGeometry::disagreements`], [`DrawableModel::disagreements`] |
 //! | read vertices as they are stored, or in one form | [`Vertices::read_vertex_attributes`], [`Vertices::to_unified_vertices`] |
+//! | read where the vertices are, and nothing else | [`Vertices::positions`] |
 //! | find a vertex buffer by its address | [`Sections::vertex_buffer_at`] |
+//! | ask why a call was refused | [`Refusal`], [`Check`] |
 //! | convert halves and normalised bytes | [`convert`] |
 
 #![deny(unsafe_code)]
@@ -54,7 +56,9 @@ mod hall_check;
 mod lend;
 mod list;
 mod model;
+mod names;
 mod outline;
+mod positions;
 mod reason;
 mod record;
 mod refusal;
@@ -73,6 +77,7 @@ pub use hall_check::hall_check;
 pub use lend::ALLOCATION_LIMIT;
 pub use list::HallList;
 pub use model::{DrawableModel, Models};
+pub use names::{nearest, UnknownName};
 pub use refusal::{Place, Refusal};
 pub use sections::Sections;
 pub use types::{VertexComponentType, VertexSemantic};

@@ -1,8 +1,9 @@
 //! Why a list is no hall: looked for after the library said by which check it is none.
 
 use crate::detail::Detail;
+use crate::disagreement::count_disagreement;
 use crate::outline::Outline;
-use crate::{Check, Disagreement, DrawableGeometry, DrawableModel, Models, Place, Refusal, VertexBufferLayout};
+use crate::{Check, DrawableGeometry, DrawableModel, Models, Place, Refusal, VertexBufferLayout};
 
 /// The refusal of a list by a check, with the first place that fails that very check and the numbers that disagree there. A list that is not ordered has
 /// no numbers; checks 13 and 19 are about the whole.
@@ -76,8 +77,8 @@ fn of_geometries<'a>(check: Check, list: &'a [u8], seen: impl Fn(DrawableGeometr
 
 /// Check 12 of a model: the numbers of entries, else the first entry that is another geometry's.
 fn of_model(model: &DrawableModel<'_>) -> Option<Found> {
-    if let Some(detail) = pair(Check::Mapping, &model.disagreements()) {
-        return Some((None, detail));
+    if let Some(pair) = model.disagreements().first() {
+        return Some((None, Detail::Pair(pair.one, pair.other)));
     }
     let mut entries = model.shader_mapping().zip(model.geometries()).zip(0..);
     let ((entry, geometry), number) = entries.find(|((entry, geometry), _)| *entry != geometry.shader_id)?;
@@ -88,7 +89,7 @@ fn of_model(model: &DrawableModel<'_>) -> Option<Found> {
 /// Checks 14 to 18 of one geometry.
 fn of_geometry(check: Check, geometry: &DrawableGeometry<'_>) -> Option<Detail> {
     let vertices = geometry.vertex_buffer?;
-    let pair = || pair(check, &geometry.disagreements());
+    let pair = || count_disagreement(check, geometry).map(|pair| Detail::Pair(pair.one, pair.other));
     match check {
         Check::Strides if vertices.layout != VertexBufferLayout::Legacy => Some(Detail::Layout(vertices.layout)),
         Check::Declaration if !geometry.declaration?.has_position() => geometry.declaration.map(Detail::Declared),
@@ -98,9 +99,4 @@ fn of_geometry(check: Check, geometry: &DrawableGeometry<'_>) -> Option<Detail> 
         Check::IndexRange => index_of(geometry.index_buffer?.indices(), u64::from(vertices.vertex_count)),
         _ => None,
     }
-}
-
-/// The first two numbers that disagree by a check.
-fn pair(check: Check, pairs: &[Disagreement]) -> Option<Detail> {
-    pairs.iter().find(|pair| pair.check == Some(check)).map(|pair| Detail::Pair(pair.one, pair.other))
 }

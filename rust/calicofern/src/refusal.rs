@@ -54,7 +54,7 @@ impl fmt::Display for Place {
 ///     format!("check 7: the buffer for the list is too short: {needed} bytes are needed, 100 were lent")
 /// );
 /// ```
-#[derive(Debug, Clone, Copy, PartialEq, Eq)]
+#[derive(Debug, Clone, Copy, PartialEq, Eq, Hash)]
 pub struct Refusal {
     check: Check,
     place: Option<Place>,

@@ -8,7 +8,7 @@ use crate::{calls, HallList, InlineVertices, Refusal, VertexBuffer, VertexBuffer
 ///
 /// A pointer in a drawable is an address: [`Sections::SYSTEM`] plus an offset in the system section, or [`Sections::GRAPHICS`] plus one in the
 /// graphics section.
-#[derive(Debug, Clone, Copy, Default, PartialEq, Eq)]
+#[derive(Debug, Clone, Copy, Default, PartialEq, Eq, Hash)]
 pub struct Sections<'a> {
     /// The system section.
     pub system: &'a [u8],

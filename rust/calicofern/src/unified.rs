@@ -56,6 +56,23 @@ impl UnifiedVertex {
     }
 }
 
+/// A vertex of which nothing is declared.
+impl Default for UnifiedVertex {
+    fn default() -> Self {
+        UnifiedVertex {
+            position: [0.0; 3],
+            normal: [0.0, 0.0, 1.0],
+            color0: [255; 4],
+            color1: [255; 4],
+            texcoord0: [0.0; 2],
+            texcoord1: [0.0; 2],
+            tangent: [1.0, 0.0, 0.0, 1.0],
+            blend_weights: [0.0; 4],
+            blend_indices: [0; 4],
+        }
+    }
+}
+
 #[cfg(test)]
 mod tests {
     use super::*;
@@ -68,18 +85,7 @@ mod tests {
     #[test]
     fn a_vertex_without_components_has_the_defaults() {
         let nothing = VertexDeclaration { flags: 0, ..VertexDeclaration::position_only(4) };
-        let expected = UnifiedVertex {
-            position: [0.0; 3],
-            normal: [0.0, 0.0, 1.0],
-            color0: [255; 4],
-            color1: [255; 4],
-            texcoord0: [0.0; 2],
-            texcoord1: [0.0; 2],
-            tangent: [1.0, 0.0, 0.0, 1.0],
-            blend_weights: [0.0; 4],
-            blend_indices: [0; 4],
-        };
-        assert_eq!(vertices(Some(nothing), 4, 2, &[7; 8]).to_unified_vertices(), Ok(vec![expected; 2]));
+        assert_eq!(vertices(Some(nothing), 4, 2, &[7; 8]).to_unified_vertices(), Ok(vec![UnifiedVertex::default(); 2]));
     }
 
     /// Each field is its component, seen by the view of its width: of every type, with numbers that differ everywhere, NaNs among them.

@@ -26,6 +26,7 @@ fn the_shoebox_is_whole() {
             let vertices = geometry.vertex_buffer.unwrap();
             let unified = vertices.to_unified_vertices().unwrap();
             assert_eq!(unified.len(), usize::from(geometry.vertices_count));
+            assert_eq!(vertices.positions().unwrap(), unified.iter().map(|vertex| vertex.position).collect::<Vec<_>>());
             assert_eq!(unified[0].normal.map(|part| part * part).iter().sum::<f32>().round(), 1.0);
         }
     }
@@ -56,6 +57,9 @@ fn every_layout_is_found() {
     assert_eq!(layouts, [0, 1, 2, 3]);
     for geometry in &geometries {
         assert_eq!(geometry.disagreements(), []);
+        let vertices = geometry.vertex_buffer.unwrap();
+        let unified = vertices.to_unified_vertices().unwrap();
+        assert_eq!(vertices.positions().unwrap(), unified.iter().map(|vertex| vertex.position).collect::<Vec<_>>());
     }
     // the mapping's entry at the original place, behind a null pointer
     assert_eq!(models[1].shader_mapping().collect::<Vec<_>>(), [9, 0, 2]);
