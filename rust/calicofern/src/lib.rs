@@ -82,3 +82,8 @@ pub use refusal::{Place, Refusal};
 pub use sections::Sections;
 pub use types::{VertexComponentType, VertexSemantic};
 pub use unified::UnifiedVertex;
+
+/// The example of README.md, for the documentation tests.
+#[cfg(doctest)]
+#[doc = include_str!("../README.md")]
+pub struct Readme;
