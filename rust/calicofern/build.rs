@@ -27,18 +27,22 @@ fn main() {
 
 /// An archive that the caller names is taken as it is. This script runs in the package's folder, so a relative path is first taken from where the caller was.
 fn named_archive(path: PathBuf) -> PathBuf {
-    println!("cargo:rerun-if-env-changed=PWD");
+    if path.is_relative() {
+        println!("cargo:rerun-if-env-changed=PWD");
+    }
     let folders = [env::var_os("PWD").map(PathBuf::from), env::current_dir().ok()];
     let mut tried: Vec<PathBuf> = folders.into_iter().flatten().map(|folder| folder.join(&path)).collect();
     tried.dedup();
-    for candidate in &tried {
-        println!("cargo:rerun-if-changed={}", candidate.display());
+    match tried.iter().find(|candidate| candidate.is_file()).and_then(|candidate| fs::canonicalize(candidate).ok()) {
+        Some(found) => {
+            println!("cargo:rerun-if-changed={}", found.display());
+            found
+        }
+        None => {
+            let names: Vec<String> = tried.iter().map(|candidate| candidate.display().to_string()).collect();
+            stop(&format!("CALICOFERN_ARCHIVE names {}, and there is no such file: tried {}", path.display(), names.join(" and ")))
+        }
     }
-    let found = tried.iter().find(|candidate| candidate.is_file()).and_then(|candidate| fs::canonicalize(candidate).ok());
-    found.unwrap_or_else(|| {
-        let names: Vec<String> = tried.iter().map(|candidate| candidate.display().to_string()).collect();
-        stop(&format!("CALICOFERN_ARCHIVE names {}, and there is no such file: tried {}", path.display(), names.join(" and ")))
-    })
 }
 
 /// The repository's own archive, built anew where a source is newer.

@@ -1,8 +1,8 @@
 //! The lines of refusals: the numbers in them, and the places.
 
 use calicofern::{
-    hall_check, Hall, NewGeometry, Place, Refusal, Sections, VertexAttributeValue as Value, VertexComponentType as Type, VertexDeclaration,
-    VertexSemantic as Semantic,
+    hall_check, DrawableGeometry, Hall, NewGeometry, Place, Refusal, Sections, VertexAttributeValue as Value, VertexComponentType as Type,
+    VertexDeclaration, VertexSemantic as Semantic,
 };
 
 const COUNTS_17: &str = "check 17: index counts disagree: a geometry's count, its index buffer's count, the indices there are and 3 for each triangle must be equal, and at least 3";
@@ -460,4 +460,54 @@ fn places_are_the_first_that_fail_the_check() {
         assert!(refusal.to_string().contains(&format!(": model {model}, geometry {geometry}: ")), "{refusal}");
     }
     assert!((14..=18).all(|check| seen[check] > 10), "{seen:?}");
+}
+
+/// A geometry of a drawable as a hall would have it, in a list of its own; none where it lacks something.
+fn alone(geometry: &DrawableGeometry<'_>) -> Option<Vec<u8>> {
+    let (vertices, indices) = (geometry.vertex_buffer?, geometry.index_buffer?);
+    let declaration = vertices.declaration_or_position_only();
+    let numbers = [&[0; 2][..], &geometry.indices_count.to_le_bytes(), &geometry.triangles_count.to_le_bytes()].concat();
+    let numbers = [&numbers[..], &geometry.vertices_count.to_le_bytes(), &geometry.vertex_stride.to_le_bytes()].concat();
+    let declared = [&declaration.flags.to_le_bytes()[..], &declaration.stride.to_le_bytes(), &[0, 0]].concat();
+    let declared = [&declared[..], &declaration.types.to_le_bytes()].concat();
+    let content = [&[0][..], &vertices.vertex_stride.to_le_bytes(), &vertices.vertex_count.to_le_bytes(), vertices.data].concat();
+    let held: Vec<u8> = indices.indices().flat_map(u32::to_le_bytes).collect();
+    let held = [&indices.indices_count.to_le_bytes()[..], &held].concat();
+    let records = [record(2, &numbers), record(3, &declared), record(4, &content), record(5, &held)];
+    Some(list_of(&[records.concat()]))
+}
+
+/// The check that a geometry of a drawable fails by itself, 0 for none.
+fn fails(geometry: &DrawableGeometry<'_>) -> u8 {
+    alone(geometry).map_or(11, |list| hall_check(&list).map_or_else(|refusal| refusal.number(), |()| 0))
+}
+
+/// Drawables with wrong bytes: what is named fails the check by itself, and nothing before it does.
+#[test]
+fn places_of_drawables_are_the_first_that_fail_the_check() {
+    let sample = |name: &str| std::fs::read(format!("{}/samples/{name}", env!("CARGO_MANIFEST_DIR"))).unwrap();
+    let drawables = [(sample("layouts.system"), sample("layouts.graphics")), (hall().save().unwrap(), Vec::new())];
+    let mut numbers = Numbers(11);
+    let mut seen = [0; 25];
+    for step in 0..6000 {
+        let (mut system, graphics) = drawables[step % 2].clone();
+        for _ in 0..1 + numbers.below(3) {
+            let at = numbers.below(system.len() as u64) as usize;
+            system[at] = if numbers.below(2) == 0 { numbers.below(256) as u8 } else { numbers.below(4) as u8 };
+        }
+        let sections = Sections::new(&system, &graphics);
+        let Err(refusal) = Hall::from_sections_within(&sections, Sections::SYSTEM, 1 << 22) else { continue };
+        seen[usize::from(refusal.number())] += 1;
+        if !matches!(refusal.number(), 11 | 14..=18) {
+            continue;
+        }
+        let list = sections.hall_list(Sections::SYSTEM).unwrap();
+        let first = list.models().zip(0..).find_map(|(model, number)| {
+            let place = model.geometries().position(|geometry| fails(&geometry) == refusal.number())?;
+            Some(Place::new(number, Some(place as u64), None))
+        });
+        assert_eq!(refusal.place(), first, "{refusal}");
+        assert!(first.is_some() && refusal.to_string().contains(&format!("{}", first.unwrap())), "{refusal}");
+    }
+    assert!([11, 14, 15, 16, 17, 18].iter().all(|check| seen[*check] > 5), "{seen:?}");
 }
