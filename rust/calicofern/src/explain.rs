@@ -95,6 +95,8 @@ pub fn removing(refusal: Refusal, list: &[u8], place: Place) -> Refusal {
 
 pub fn setting(refusal: Refusal, list: &[u8], place: Place, semantic: VertexSemantic, value: &VertexAttributeValue) -> Refusal {
     let refusal = removing(refusal, list, place);
+    // the library goes by the number
+    let semantic = VertexSemantic::from_index(semantic.index());
     let Some(declaration) = geometry_at(list, place).and_then(|geometry| geometry.declaration) else {
         return refusal;
     };

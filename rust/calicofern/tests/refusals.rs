@@ -138,6 +138,9 @@ fn a_value_of_another_shape_is_counted() {
     for (semantic, value, text) in expected {
         assert_eq!(words(1, semantic, value), format!("check 23: {text}{place}"));
     }
+    // a semantic is its number
+    let text = "check 23: Position is Half4: four numbers, 3 are given: model 2, geometry 1, vertex 1";
+    assert_eq!(words(1, Semantic::Unknown(0), Value::Float3([0.0; 3])), text);
     // the same semantic has another type in the geometry before it
     let text = "check 23: Position is Float3: three numbers, four bytes are given: model 2, geometry 0, vertex 1";
     assert_eq!(words(0, Semantic::Position, Value::Colour([0; 4])), text);
@@ -255,6 +258,14 @@ fn lists_fail_at_the_first_place_that_fails_the_check() {
         "check 12: a model's mapping is not the list of its geometries' shader ids: it needs one entry for each geometry, in their order";
     let text = format!("{mapping}: model 1, geometry 2: shader mapping entry 9, but shader id 0");
     assert_eq!(failing(&[(SECOND + 16, 9), (second + layout, 2)]), text);
+    // an entry too many in the second model
+    let mut longer = [&list[..SECOND + 18], &[0, 0], &list[SECOND + 18..]].concat();
+    longer[SECOND] += 2;
+    assert_eq!(line(hall_check(&longer)), format!("{mapping}: model 1: shader mapping entries 4, but geometries 3"));
+    // no vertices at all: both counts agree
+    let mut empty = [&list[..69], &list[105..SECOND]].concat();
+    (empty[30], empty[56], empty[65]) = (0, 7, 0);
+    assert_eq!(line(hall_check(&empty)), format!("{COUNTS_16}: model 0, geometry 0: vertex count 0"));
     // no indices at all: all counts agree
     let mut empty = list[..SECOND].to_vec();
     empty.truncate(SECOND - 12);
