@@ -2,6 +2,13 @@
 
    Each promise below is proved for every input: the function reads and writes only what it was lent, and always returns.
 
+   To link, with gcc or clang, as C or as C++:
+
+      cc app.c libexports.a -Iinclude
+
+   libexports.a is the static library of these functions; `rt staticlib exports` in the repository's root writes it to target/staticlib. It needs nothing
+   beside the C library. include/example.c is such an app.c.
+
    A slice is two arguments, a pointer and the number of its elements, which are bytes, or for indices uint32_t. The pointer must point to that
    many readable elements, and for an output or a hall writable ones; it is aligned for its type and never null, not even with length 0. An output,
    a hall and `size` overlap no other argument. A slice has fewer than 2^63 bytes.
@@ -32,6 +39,82 @@
 #ifdef __cplusplus
 extern "C" {
 #endif
+
+/* ---- Numbers with names
+
+   Functions take and return plain integers; these are their values. */
+
+/* What a function that refuses returns; 0 is an acceptance. Later versions may have more. */
+enum calicofern_check {
+    CALICOFERN_CHECK_SECTION_LENGTH = 1,    /* a section has more than 67,108,864 bytes */
+    CALICOFERN_CHECK_MODEL_POINTERS = 2,    /* the model pointers of a LOD do not resolve */
+    CALICOFERN_CHECK_MODEL_BLOCK = 3,       /* a model's block does not */
+    CALICOFERN_CHECK_GEOMETRY_POINTERS = 4, /* the geometry pointers of a model do not */
+    CALICOFERN_CHECK_GEOMETRY_LIMIT = 5,    /* a geometry has 16,384 before it */
+    CALICOFERN_CHECK_GEOMETRY_BLOCK = 6,    /* a geometry's block does not resolve */
+    CALICOFERN_CHECK_LIST_BUFFER = 7,       /* the list buffer is too short */
+    CALICOFERN_CHECK_VERTEX_INDEX = 8,      /* there is no vertex with this index */
+    CALICOFERN_CHECK_VERTEX_DATA = 9,       /* a component does not end inside the vertex data */
+    CALICOFERN_CHECK_OUTPUT = 10,           /* an output of the vertex functions is too short */
+    CALICOFERN_CHECK_RECORDS = 11,          /* the records are not whole, ordered and exact in length */
+    CALICOFERN_CHECK_MAPPING = 12,          /* a mapping is not the shader ids */
+    CALICOFERN_CHECK_LIMITS = 13,           /* more than 256 models or 16,384 geometries */
+    CALICOFERN_CHECK_STRIDES = 14,          /* strides differ, or the layout is not 0 */
+    CALICOFERN_CHECK_DECLARATION = 15,      /* no position, or components beyond the stride */
+    CALICOFERN_CHECK_VERTEX_COUNT = 16,     /* vertex counts differ, or are not 1 to 65,535 */
+    CALICOFERN_CHECK_INDEX_COUNTS = 17,     /* index counts differ, or are not 3 for each triangle */
+    CALICOFERN_CHECK_INDEX_RANGE = 18,      /* an index is not below the count of vertices */
+    CALICOFERN_CHECK_IMAGE_LENGTH = 19,     /* the image has more than 67,108,864 bytes */
+    CALICOFERN_CHECK_IMAGE_BUFFER = 20,     /* the image buffer is too short */
+    CALICOFERN_CHECK_TARGET = 21,           /* there is no such model, geometry or vertex */
+    CALICOFERN_CHECK_SEMANTIC = 22,         /* the semantic is not declared, or has no bytes */
+    CALICOFERN_CHECK_SHAPE = 23,            /* the value has not the type's shape */
+    CALICOFERN_CHECK_HALL_BUFFER = 24       /* the hall buffer is too short */
+};
+
+/* What a component of a vertex means: the number of its flag in a declaration, and of its nibble in the types. */
+enum calicofern_semantic {
+    CALICOFERN_POSITION = 0,      /* where the vertex is */
+    CALICOFERN_BLEND_WEIGHTS = 1, /* how much each bone moves it */
+    CALICOFERN_BLEND_INDICES = 2, /* which bones do */
+    CALICOFERN_NORMAL = 3,        /* the direction of the surface */
+    CALICOFERN_COLOUR0 = 4,       /* a colour */
+    CALICOFERN_COLOUR1 = 5,       /* a second one */
+    CALICOFERN_TEXCOORD0 = 6,     /* where in a texture, two numbers */
+    CALICOFERN_TEXCOORD1 = 7,     /* a second place */
+    CALICOFERN_TEXCOORD2 = 8,     /* a third place */
+    CALICOFERN_TEXCOORD3 = 9,     /* a fourth place */
+    CALICOFERN_TEXCOORD4 = 10,    /* a fifth place */
+    CALICOFERN_TEXCOORD5 = 11,    /* a sixth place */
+    CALICOFERN_TEXCOORD6 = 12,    /* a seventh place */
+    CALICOFERN_TEXCOORD7 = 13,    /* an eighth place */
+    CALICOFERN_TANGENT = 14,      /* the direction of the texture */
+    CALICOFERN_BINORMAL = 15      /* the direction across it */
+};
+
+/* How a component is stored: a nibble of a declaration's types. 11 to 15 have no bytes. */
+enum calicofern_type {
+    CALICOFERN_NOTHING = 0,       /* no bytes */
+    CALICOFERN_HALF2 = 1,         /* two halves, 4 bytes */
+    CALICOFERN_FLOAT = 2,         /* one float, 4 bytes */
+    CALICOFERN_HALF4 = 3,         /* four halves, 8 bytes */
+    CALICOFERN_FLOAT_UNKNOWN = 4, /* no bytes */
+    CALICOFERN_FLOAT2 = 5,        /* two floats, 8 bytes */
+    CALICOFERN_FLOAT3 = 6,        /* three floats, 12 bytes */
+    CALICOFERN_FLOAT4 = 7,        /* four floats, 16 bytes */
+    CALICOFERN_UBYTE4 = 8,        /* four bytes */
+    CALICOFERN_COLOUR = 9,        /* four bytes, a colour */
+    CALICOFERN_RGBA8_SNORM = 10   /* four signed bytes, each a number from -1 to 1 */
+};
+
+/* How many of x, y, z and w a value for calicofern_set_attribute is made of. */
+enum calicofern_shape {
+    CALICOFERN_SHAPE_FLOAT = 1,  /* x is a float's bits */
+    CALICOFERN_SHAPE_FLOAT2 = 2, /* x and y are */
+    CALICOFERN_SHAPE_FLOAT3 = 3, /* x, y and z are */
+    CALICOFERN_SHAPE_FLOAT4 = 4, /* all four are */
+    CALICOFERN_SHAPE_BYTES = 5   /* each of the four is a number up to 255 */
+};
 
 /* ---- Halls */
 

@@ -1,7 +1,7 @@
 //! Links the proved static library, and has it built where it is missing or older than its sources.
 //!
 //! The archive is target/staticlib/libexports.a of the repository, written by `rt staticlib exports`. CALICOFERN_ARCHIVE names another archive of
-//! that library, for a machine without the Rattle kit.
+//! that library, for a machine without the Rattle kit; a relative path is taken from the folder in which cargo was started.
 
 use std::path::{Path, PathBuf};
 use std::process::{exit, Command};
@@ -25,12 +25,23 @@ fn main() {
     link(&archive);
 }
 
-/// An archive that the caller names is taken as it is.
+/// An archive that the caller names is taken as it is. This script runs in the package's folder, so a relative path is first taken from where the caller was.
 fn named_archive(path: PathBuf) -> PathBuf {
-    println!("cargo:rerun-if-changed={}", path.display());
-    match fs::canonicalize(&path) {
-        Ok(path) => path,
-        Err(error) => stop(&format!("CALICOFERN_ARCHIVE names {}: {error}", path.display())),
+    if path.is_relative() {
+        println!("cargo:rerun-if-env-changed=PWD");
+    }
+    let folders = [env::var_os("PWD").map(PathBuf::from), env::current_dir().ok()];
+    let mut tried: Vec<PathBuf> = folders.into_iter().flatten().map(|folder| folder.join(&path)).collect();
+    tried.dedup();
+    match tried.iter().find(|candidate| candidate.is_file()).and_then(|candidate| fs::canonicalize(candidate).ok()) {
+        Some(found) => {
+            println!("cargo:rerun-if-changed={}", found.display());
+            found
+        }
+        None => {
+            let names: Vec<String> = tried.iter().map(|candidate| candidate.display().to_string()).collect();
+            stop(&format!("CALICOFERN_ARCHIVE names {}, and there is no such file: tried {}", path.display(), names.join(" and ")))
+        }
     }
 }
 
@@ -120,6 +131,8 @@ fn link(archive: &Path) {
     };
     println!("cargo:rustc-link-search=native={}", folder.display());
     println!("cargo:rustc-link-lib=static={name}");
+    // for the test that links a C program with it
+    println!("cargo:rustc-env=CALICOFERN_LINKED_ARCHIVE={}", archive.display());
 }
 
 fn stop(reason: &str) -> ! {

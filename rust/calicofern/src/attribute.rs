@@ -211,8 +211,21 @@ mod tests {
     #[test]
     fn position_only_of_stride_11_ends_after_the_first_vertex() {
         let position = VertexDeclaration::position_only(11);
-        let read = |index| attributes_of(&[0; 22], 11, 2, &position, index).map(|found| found.len()).map_err(|refusal| refusal.check());
+        let read = |index| attributes_of(&[0; 22], 11, 2, &position, index).map(|found| found.len()).map_err(|refusal| refusal.number());
         assert_eq!((read(0), read(1), read(2)), (Ok(1), Err(9), Err(8)));
         assert_eq!(read(u64::MAX), Err(8));
+    }
+    #[test]
+    fn values_are_passed_by_their_shape() {
+        use VertexAttributeValue as Value;
+        let bits = 1.5f32.to_bits();
+        assert_eq!(Value::Unsupported.passed(), (0, [0; 4]));
+        assert_eq!(Value::Float(1.5).passed(), (1, [bits, 0, 0, 0]));
+        assert_eq!((Value::Half2([1.5; 2]).passed(), Value::Float2([1.5; 2]).passed()), ((2, [bits, bits, 0, 0]), (2, [bits, bits, 0, 0])));
+        assert_eq!(Value::Float3([1.5; 3]).passed(), (3, [bits, bits, bits, 0]));
+        for value in [Value::Half4([1.5; 4]), Value::Float4([1.5; 4]), Value::Rgba8Snorm([1.5; 4])] {
+            assert_eq!(value.passed(), (4, [bits; 4]));
+        }
+        assert_eq!((Value::UByte4([9; 4]).passed(), Value::Colour([9; 4]).passed()), ((5, [9; 4]), (5, [9; 4])));
     }
 }

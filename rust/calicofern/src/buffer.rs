@@ -1,12 +1,13 @@
 //! The vertices of a geometry, as they are stored.
 
 use crate::attribute::{attributes_of, VertexAttribute};
+use crate::blocks::{positions_of, unified_blocks};
 use crate::lend::{lend, ALLOCATION_LIMIT};
 use crate::{calls, Refusal, UnifiedVertex, VertexDeclaration};
 use std::fmt;
 
 /// Where a geometry's vertices were found.
-#[derive(Debug, Clone, Copy, PartialEq, Eq)]
+#[derive(Debug, Clone, Copy, PartialEq, Eq, PartialOrd, Ord, Hash)]
 pub enum VertexBufferLayout {
     /// In a vertex buffer block, by its first pointer.
     Legacy,
@@ -57,7 +58,7 @@ impl fmt::Display for VertexBufferLayout {
 }
 
 /// A geometry's own vertices, for where its vertex buffer block leads nowhere.
-#[derive(Debug, Clone, Copy, Default, PartialEq, Eq)]
+#[derive(Debug, Clone, Copy, Default, PartialEq, Eq, PartialOrd, Ord, Hash)]
 pub struct InlineVertices {
     /// The address of the data.
     pub data_pointer: u64,
@@ -68,7 +69,7 @@ pub struct InlineVertices {
 }
 
 /// A vertex buffer that was found by its address.
-#[derive(Debug, Clone, Copy, PartialEq, Eq)]
+#[derive(Debug, Clone, Copy, PartialEq, Eq, Hash)]
 pub struct VertexBuffer<'a> {
     /// The address of the data.
     pub data_pointer: u64,
@@ -79,7 +80,7 @@ pub struct VertexBuffer<'a> {
 }
 
 /// Vertices as they are stored. Any numbers may stand beside any data: a call whose vertices are not inside the data is refused.
-#[derive(Debug, Clone, Copy, PartialEq, Eq)]
+#[derive(Debug, Clone, Copy, PartialEq, Eq, Hash)]
 pub struct Vertices<'a> {
     /// Where they were found.
     pub layout: VertexBufferLayout,
@@ -108,7 +109,7 @@ impl Vertices<'_> {
     /// let data: Vec<u8> = [1.0f32, 2.0, 3.0].iter().flat_map(|f| f.to_le_bytes()).collect();
     /// let one = Vertices { layout: VertexBufferLayout::Gen9, vertex_stride: 12, vertex_count: 1, declaration: None, data: &data };
     /// assert_eq!(one.read_vertex_attributes(0)?[0].value, VertexAttributeValue::Float3([1.0, 2.0, 3.0]));
-    /// assert_eq!(one.read_vertex_attributes(1).unwrap_err().check(), 8);
+    /// assert_eq!(one.read_vertex_attributes(1).unwrap_err().number(), 8);
     /// # Ok::<(), calicofern::Refusal>(())
     /// ```
     pub fn read_vertex_attributes(&self, index: u64) -> Result<Vec<VertexAttribute>, Refusal> {
@@ -133,7 +134,39 @@ impl Vertices<'_> {
         Ok(self.to_unified_bytes()?.chunks_exact(UnifiedVertex::SIZE).map(UnifiedVertex::read).collect())
     }
 
-    /// The same as bytes, [`UnifiedVertex::SIZE`] for each vertex.
+    /// The position of each vertex, as its unified vertex has it: (0, 0, 0) where there is none. The unified vertices themselves are made some thousands at
+    /// a time, so this takes 12 bytes for each vertex where they take 84.
+    ///
+    /// Refused by check 9 where a vertex is not inside the data, by 10 where the positions need more than [`ALLOCATION_LIMIT`] bytes.
+    ///
+    /// ```
+    /// use calicofern::{VertexBufferLayout, Vertices};
+    /// let data: Vec<u8> = [1.0f32, 2.0, 3.0].iter().flat_map(|f| f.to_le_bytes()).collect();
+    /// let one = Vertices { layout: VertexBufferLayout::Gen9, vertex_stride: 12, vertex_count: 1, declaration: None, data: &data };
+    /// assert_eq!(one.positions()?, [[1.0, 2.0, 3.0]]);
+    /// # Ok::<(), calicofern::Refusal>(())
+    /// ```
+    pub fn positions(&self) -> Result<Vec<[f32; 3]>, Refusal> {
+        positions_of(self)
+    }
+
+    /// The unified vertices as bytes, some thousands at a time: for an output that takes them one after another.
+    ///
+    /// Refused by check 9 where a vertex is not inside the data, before any is taken; ends with the first error of `take`.
+    ///
+    /// ```
+    /// use calicofern::{Refusal, VertexBufferLayout, Vertices};
+    /// let many = Vertices { layout: VertexBufferLayout::Gen9, vertex_stride: 12, vertex_count: 10_000, declaration: None, data: &[0; 120_000] };
+    /// let mut bytes = Vec::new();
+    /// many.unified_blocks(|block| Ok::<(), Refusal>(bytes.extend(block)))?;
+    /// assert_eq!(bytes, many.to_unified_bytes()?);
+    /// # Ok::<(), calicofern::Refusal>(())
+    /// ```
+    pub fn unified_blocks<E: From<Refusal>>(&self, take: impl FnMut(&[u8]) -> Result<(), E>) -> Result<(), E> {
+        unified_blocks(self, take)
+    }
+
+    /// The unified vertices as bytes, [`UnifiedVertex::SIZE`] for each.
     pub fn to_unified_bytes(&self) -> Result<Vec<u8>, Refusal> {
         lend(ALLOCATION_LIMIT, |out| self.unify_into(out))
     }

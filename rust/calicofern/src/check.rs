@@ -1,49 +1,123 @@
-//! Whether a list is a hall.
+//! The checks that a call may be refused by.
 
-use crate::calls::{self, Told};
-use crate::{Disagreement, Models, Place, Refusal};
+use std::fmt;
 
-/// Whether these bytes are a hall: the list of its models and geometries, in which every count agrees. Otherwise the lowest of checks 11 to 19
-/// that fails anywhere in it, with its place where two numbers of a model or a geometry disagree.
-///
-/// ```
-/// use calicofern::{hall_check, Sections};
-///
-/// # let system = std::fs::read(concat!(env!("CARGO_MANIFEST_DIR"), "/samples/shoebox.system")).unwrap();
-/// let hall = Sections::new(&system, &[]).hall_list(Sections::SYSTEM).unwrap();
-/// assert_eq!(hall_check(hall.as_bytes()), Ok(()));
-///
-/// // The first geometry's record stands behind its model's. One triangle more in it, and nothing else:
-/// let geometry = 12 + 2 * hall.models().next().unwrap().geometries().count();
-/// let mut list = hall.into_bytes();
-/// list[geometry + 12] += 1;
-/// let refusal = hall_check(&list).unwrap_err();
-/// assert_eq!(refusal.check(), 17);
-/// assert!(refusal.to_string().starts_with("check 17: index counts disagree"));
-/// assert!(refusal.to_string().ends_with(": model 0, geometry 0"));
-///
-/// // A list that ends inside a record is none.
-/// assert_eq!(hall_check(&list[..20]).unwrap_err().check(), 11);
-/// ```
-pub fn hall_check(list: &[u8]) -> Result<(), Refusal> {
-    let check = calls::hall_check(list);
-    Refusal::told(Told { check, size: 0 }, list.len()).map(|_| ()).map_err(|refusal| refusal.at(place_of(check, list)))
+/// The one table of the checks: number, name, and what is asked in words.
+macro_rules! checks {
+    ($($number:literal $name:ident $text:literal,)*) => {
+        /// What a refused call was asked: a check by its number, as docs/FORMAT.md of the repository lists them.
+        ///
+        /// ```
+        /// use calicofern::Check;
+        /// assert_eq!(Check::from_number(18), Check::IndexRange);
+        /// assert_eq!(Check::IndexRange.number(), 18);
+        /// assert_eq!(Check::IndexRange.to_string(), "check 18");
+        /// assert_eq!(Check::from_number(255), Check::Unknown(255));
+        /// ```
+        #[derive(Debug, Clone, Copy, PartialEq, Eq, PartialOrd, Ord, Hash)]
+        #[non_exhaustive]
+        pub enum Check {
+            $(#[doc = concat!("Check ", $number, ": ", $text, ".")] $name,)*
+            /// A number that this version does not know.
+            Unknown(u8),
+        }
+
+        impl Check {
+            /// Every check that this version knows, in the order of their numbers.
+            pub const ALL: &'static [Check] = &[$(Check::$name),*];
+
+            /// The check with a number.
+            pub fn from_number(number: u8) -> Self {
+                match number {
+                    $($number => Self::$name,)*
+                    other => Self::Unknown(other),
+                }
+            }
+
+            /// Its number.
+            pub fn number(self) -> u8 {
+                match self {
+                    $(Self::$name => $number,)*
+                    Self::Unknown(other) => other,
+                }
+            }
+
+            /// What it asks for, in words that tell a user why a call was refused.
+            pub fn text(self) -> &'static str {
+                match self {
+                    $(Self::$name => $text,)*
+                    Self::Unknown(_) => "a check that this version does not know",
+                }
+            }
+        }
+    };
 }
 
-/// The first model or geometry with two numbers that disagree by this check. What is not ordered has no numbers, and checks 13 and 19 are about all.
-fn place_of(check: u8, list: &[u8]) -> Option<Place> {
-    if matches!(check, 11 | 13 | 19) {
-        return None;
+checks! {
+    1 SectionLength "a section is too long: the system and the graphics section may have 67108864 bytes each",
+    2 ModelPointers "the list of model pointers is not inside its section: the address and the count in the LOD header must lead to it",
+    3 ModelBlock "a model is not inside its section: each model pointer that is not 0 must lead to 48 bytes",
+    4 GeometryPointers "a model's list of geometry pointers is not inside its section: the model's address and count must lead to it",
+    5 GeometryLimit "there are too many geometries: a list holds at most 16384",
+    6 GeometryBlock "a geometry is not inside its section: each geometry pointer that is not 0 must lead to 152 bytes",
+    7 ListBuffer "the buffer for the list is too short",
+    8 VertexIndex "there is no such vertex: its index must be below the number of vertices",
+    9 VertexData "a vertex is not inside its data: every component that has bytes must end inside the vertex data",
+    10 Output "the output is too short",
+    11 Records "the list is not made of whole records in order: a model, then its geometries as kinds 2, 3, 4 and 5, each record as long as its own numbers say",
+    12 Mapping "a model's mapping is not the list of its geometries' shader ids: it needs one entry for each geometry, in their order",
+    13 Limits "there are too many models or geometries: a hall has at most 256 models and 16384 geometries",
+    14 Strides "strides or layout disagree: the strides of geometry, declaration and vertex buffer must be equal and the layout 0, Legacy",
+    15 Declaration "a declaration does not fit its vertices: it must declare a position that has bytes, and all components must fit into the stride",
+    16 VertexCount "vertex counts disagree: a geometry and its vertex buffer must have the same count, 1 to 65535",
+    17 IndexCounts "index counts disagree: a geometry's count, its index buffer's count, the indices there are and 3 for each triangle must be equal, and at least 3",
+    18 IndexRange "an index names no vertex: each must be below the number of vertices",
+    19 ImageLength "the hall is too large to be saved: its image may have 67108864 bytes",
+    20 ImageBuffer "the buffer for the image is too short",
+    21 Target "there is no such model, geometry or vertex: each is counted from 0, and a geometry can only be added where there is a model",
+    22 Semantic "the vertices have no such attribute: the geometry's declaration must have this semantic, with a type that has bytes",
+    23 Shape "the value has not the shape of the attribute's type: Float wants one float, Half2 and Float2 two, Float3 three, Half4, Float4 and RGBA8SNorm four, UByte4 and Colour four bytes",
+    24 HallBuffer "the buffer for the hall is too short",
+}
+
+impl Check {
+    /// Whether its refusal says how many bytes were needed.
+    pub(crate) fn needs_bytes(self) -> bool {
+        matches!(self, Self::ListBuffer | Self::Output | Self::ImageBuffer | Self::HallBuffer)
     }
-    let fails = |pairs: Vec<Disagreement>| pairs.iter().any(|pair| pair.check == Some(check));
-    for (model, number) in Models::of(list).zip(0..) {
-        let place = Place { model: number, geometry: None, vertex: None };
-        if fails(model.disagreements()) {
-            return Some(place);
-        }
-        if let Some((_, geometry)) = model.geometries().zip(0..).find(|(geometry, _)| fails(geometry.disagreements())) {
-            return Some(Place { geometry: Some(geometry), ..place });
+}
+
+/// `check 18`.
+impl fmt::Display for Check {
+    fn fmt(&self, out: &mut fmt::Formatter<'_>) -> fmt::Result {
+        out.pad(&format!("check {}", self.number()))
+    }
+}
+
+#[cfg(test)]
+mod tests {
+    use super::*;
+
+    #[test]
+    fn numbers_go_both_ways() {
+        assert!((0..=255).all(|number| Check::from_number(number).number() == number));
+        assert_eq!(Check::ALL.len(), 24);
+        assert_eq!(Check::ALL.iter().map(|check| check.number()).collect::<Vec<_>>(), (1..=24).collect::<Vec<_>>());
+        assert_eq!(Check::from_number(0), Check::Unknown(0));
+    }
+
+    #[test]
+    fn each_check_has_its_own_line() {
+        for check in Check::ALL {
+            let text = check.text();
+            assert!(!text.contains('\n') && text != Check::Unknown(0).text(), "{check}: {text}");
+            assert_eq!(Check::ALL.iter().filter(|other| other.text() == text).count(), 1, "{check}: {text}");
         }
     }
-    None
+
+    #[test]
+    fn checks_are_ordered_by_their_numbers() {
+        assert!(Check::ALL.windows(2).all(|pair| pair[0] < pair[1]));
+        assert!(Check::HallBuffer < Check::Unknown(25));
+    }
 }

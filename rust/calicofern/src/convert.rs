@@ -147,6 +147,6 @@ mod tests {
         assert_eq!(wide[4..], 1.0f32.to_le_bytes());
         assert_eq!(snorm8_to_floats(&[0, 0x81], &mut wide), Ok(8));
         assert_eq!(wide[4..], (-1.0f32).to_le_bytes());
-        assert_eq!(floats_to_unorm8(&wide, &mut [0; 1]).unwrap_err().check(), 10);
+        assert_eq!(floats_to_unorm8(&wide, &mut [0; 1]).unwrap_err().number(), 10);
     }
 }

@@ -5,8 +5,8 @@ use crate::bytes::{u16_at, u32_at, u64_at, u8_at};
 use crate::{calls, VertexComponentType, VertexSemantic};
 use std::fmt;
 
-/// What each vertex of a buffer has: a flag for each semantic, and a type for each flag.
-#[derive(Debug, Clone, Copy, PartialEq, Eq)]
+/// What each vertex of a buffer has: a flag for each semantic, and a type for each flag. The default has none.
+#[derive(Debug, Clone, Copy, Default, PartialEq, Eq, PartialOrd, Ord, Hash)]
 pub struct VertexDeclaration {
     /// Bit i, 0 to 15: each vertex has a component of semantic i. The bits above mean nothing.
     pub flags: u32,
@@ -21,7 +21,7 @@ pub struct VertexDeclaration {
 }
 
 /// One component of a declaration.
-#[derive(Debug, Clone, Copy, PartialEq, Eq)]
+#[derive(Debug, Clone, Copy, PartialEq, Eq, PartialOrd, Ord, Hash)]
 pub struct VertexComponent {
     /// What it means.
     pub semantic: VertexSemantic,
@@ -56,7 +56,7 @@ impl VertexDeclaration {
     /// assert_eq!((declaration.stride, declaration.count), (16, 2));
     /// ```
     pub fn of(components: &[(VertexSemantic, VertexComponentType)]) -> Self {
-        let mut made = VertexDeclaration { flags: 0, stride: 0, unknown_6h: 0, count: 0, types: 0 };
+        let mut made = VertexDeclaration::default();
         for (semantic, component_type) in components {
             let (place, nibble) = (u32::from(semantic.index()), component_type.nibble());
             if place < 16 && nibble < 11 {
@@ -98,6 +98,12 @@ impl VertexDeclaration {
         // A vertex has at most 16 components of 16 bytes. The proved library reads such a vertex of zeros and tells its components.
         let vertex = attributes_of(&[0; 256], 0, 1, self, 0);
         vertex.unwrap_or_default().into_iter().map(|attribute| attribute.component).collect()
+    }
+
+    /// Whether it declares a position that has bytes.
+    pub(crate) fn has_position(&self) -> bool {
+        let position = self.components().into_iter().find(|component| component.semantic == VertexSemantic::Position);
+        position.is_some_and(|position| position.component_type.size_in_bytes() > 0)
     }
 
     /// The bytes of its components together.

@@ -1,13 +1,14 @@
 //! Numbers of a drawable that ought to agree.
 
-use crate::DrawableGeometry;
+use crate::{Check, DrawableGeometry};
 use std::fmt;
 
 /// Two numbers of a model or a geometry that ought to agree and do not.
-#[derive(Debug, Clone, Copy, PartialEq, Eq)]
+#[derive(Debug, Clone, Copy, PartialEq, Eq, PartialOrd, Ord, Hash)]
+#[non_exhaustive]
 pub struct Disagreement {
     /// The check of a sound hall that the pair would fail, 11 to 18; `None` where no check asks.
-    pub check: Option<u8>,
+    pub check: Option<Check>,
     /// What the one is, and its value.
     pub one: (&'static str, u64),
     /// What the other is, and its value.
@@ -19,7 +20,7 @@ impl fmt::Display for Disagreement {
         let ((one, first), (other, second)) = (self.one, self.other);
         write!(out, "{one} {first}, but {other} {second}")?;
         match self.check {
-            Some(check) => write!(out, " (check {check} of a sound hall)"),
+            Some(check) => write!(out, " ({check} of a sound hall)"),
             None => write!(out, " (not looked at in reading)"),
         }
     }
@@ -28,41 +29,48 @@ impl fmt::Display for Disagreement {
 type Number = (&'static str, u64);
 
 /// The pair, where its numbers differ.
-pub fn equal(check: u8, one: Number, other: Number) -> Option<Disagreement> {
+pub fn equal(check: Check, one: Number, other: Number) -> Option<Disagreement> {
     (one.1 != other.1).then_some(Disagreement { check: Some(check), one, other })
 }
 
 /// The pair, where the first number is greater.
-fn at_most(check: u8, one: Number, other: Number) -> Option<Disagreement> {
+fn at_most(check: Check, one: Number, other: Number) -> Option<Disagreement> {
     (one.1 > other.1).then_some(Disagreement { check: Some(check), one, other })
 }
 
 pub fn geometry_disagreements(geometry: &DrawableGeometry<'_>) -> Vec<Disagreement> {
     let mut found = index_disagreements(geometry);
+    found.extend(highest_disagreement(geometry));
     found.extend(vertex_disagreements(geometry));
     found.extend(declaration_disagreements(geometry));
     found
 }
 
+/// The first pair that fails one of checks 11 and 14 to 17, for which no index has to be looked at.
+pub fn count_disagreement(check: Check, geometry: &DrawableGeometry<'_>) -> Option<Disagreement> {
+    let found = [index_disagreements(geometry), vertex_disagreements(geometry), declaration_disagreements(geometry)];
+    found.into_iter().flatten().find(|pair| pair.check == Some(check))
+}
+
 fn index_disagreements(geometry: &DrawableGeometry<'_>) -> Vec<Disagreement> {
     let stored = ("index count", u64::from(geometry.indices_count));
     let triangles = ("3 x triangle count", 3 * u64::from(geometry.triangles_count));
-    let mut found = vec![equal(17, stored, triangles)];
+    let mut found = vec![equal(Check::IndexCounts, stored, triangles)];
     match geometry.index_buffer {
         Some(buffer) => {
             let count = ("count of the index block", u64::from(buffer.indices_count));
             let held = ("indices found", buffer.indices().len() as u64);
-            found.push(equal(17, stored, count));
-            found.push(equal(17, count, held));
-            let highest = buffer.indices().max();
-            if let (Some(vertices), Some(highest)) = (geometry.vertex_buffer, highest) {
-                let needed = ("highest index + 1", u64::from(highest) + 1);
-                found.push(at_most(18, needed, ("vertices found", u64::from(vertices.vertex_count))));
-            }
+            found.push(equal(Check::IndexCounts, stored, count));
+            found.push(equal(Check::IndexCounts, count, held));
         }
-        None => found.push(equal(11, stored, ("indices found", 0))),
+        None => found.push(equal(Check::Records, stored, ("indices found", 0))),
     }
     found.into_iter().flatten().collect()
+}
+
+fn highest_disagreement(geometry: &DrawableGeometry<'_>) -> Option<Disagreement> {
+    let needed = ("highest index + 1", u64::from(geometry.index_buffer?.indices().max()?) + 1);
+    at_most(Check::IndexRange, needed, ("vertices found", u64::from(geometry.vertex_buffer?.vertex_count)))
 }
 
 fn vertex_disagreements(geometry: &DrawableGeometry<'_>) -> Vec<Disagreement> {
@@ -72,9 +80,9 @@ fn vertex_disagreements(geometry: &DrawableGeometry<'_>) -> Vec<Disagreement> {
         Some(vertices) => {
             let count = ("vertices found", u64::from(vertices.vertex_count));
             let buffer = ("stride of the vertices found", u64::from(vertices.vertex_stride));
-            [equal(16, stored, count), equal(14, stride, buffer)].into_iter().flatten().collect()
+            [equal(Check::VertexCount, stored, count), equal(Check::Strides, stride, buffer)].into_iter().flatten().collect()
         }
-        None => equal(11, stored, ("vertices found", 0)).into_iter().collect(),
+        None => equal(Check::Records, stored, ("vertices found", 0)).into_iter().collect(),
     }
 }
 
@@ -85,9 +93,9 @@ fn declaration_disagreements(geometry: &DrawableGeometry<'_>) -> Vec<Disagreemen
     let stride = ("stride of the vertices found", u64::from(vertices.vertex_stride));
     let declaration = vertices.declaration_or_position_only();
     let size = ("bytes of the components", u64::from(declaration.size_in_bytes()));
-    let mut found = vec![at_most(15, size, stride)];
+    let mut found = vec![at_most(Check::Declaration, size, stride)];
     if geometry.declaration.is_some() {
-        found.push(equal(14, stride, ("stride of the declaration", u64::from(declaration.stride))));
+        found.push(equal(Check::Strides, stride, ("stride of the declaration", u64::from(declaration.stride))));
         let one = ("count of the declaration", u64::from(declaration.count));
         let other = ("components", declaration.components().len() as u64);
         found.push((one.1 != other.1).then_some(Disagreement { check: None, one, other }));
@@ -97,7 +105,7 @@ fn declaration_disagreements(geometry: &DrawableGeometry<'_>) -> Vec<Disagreemen
 
 #[cfg(test)]
 mod tests {
-    use crate::Models;
+    use crate::{Check, Models};
 
     fn record(kind: u8, body: &[u8]) -> Vec<u8> {
         [&[body.len() as u8, 0, 0, 0, kind, 0], body].concat()
@@ -121,7 +129,7 @@ mod tests {
     fn checks(list: &[u8]) -> Vec<Option<u8>> {
         let model = Models::of(list).next().unwrap();
         let geometry = model.geometries().next().unwrap();
-        model.disagreements().iter().chain(&geometry.disagreements()).map(|pair| pair.check).collect()
+        model.disagreements().iter().chain(&geometry.disagreements()).map(|pair| pair.check.map(Check::number)).collect()
     }
 
     #[test]

@@ -98,7 +98,7 @@ impl<'a> DrawableGeometry<'a> {
 }
 
 /// The indices of a geometry.
-#[derive(Debug, Clone, Copy, PartialEq, Eq)]
+#[derive(Debug, Clone, Copy, PartialEq, Eq, Hash)]
 pub struct IndexBuffer<'a> {
     /// The number of indices, as their block says.
     pub indices_count: u32,

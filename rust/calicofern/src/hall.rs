@@ -3,8 +3,8 @@
 use crate::calls::{self, Given, Told};
 use crate::lend::{lend, ALLOCATION_LIMIT};
 use crate::{
-    hall_check, DrawableGeometry, DrawableModel, Models, Place, Refusal, Sections, UnifiedVertex, VertexAttribute, VertexAttributeValue,
-    VertexDeclaration, VertexSemantic,
+    explain, hall_check, DrawableGeometry, DrawableModel, Models, Place, Refusal, Sections, UnifiedVertex, VertexAttribute,
+    VertexAttributeValue, VertexDeclaration, VertexSemantic,
 };
 use std::fmt;
 
@@ -32,7 +32,7 @@ use std::fmt;
 /// assert_eq!(hall.list().len(), 127);
 ///
 /// let refusal = hall.replace_indices(0, 0, &[0, 1, 3]).unwrap_err();
-/// assert_eq!(refusal.check(), 18);
+/// assert_eq!(refusal.number(), 18);
 /// assert_eq!(hall.geometry(0, 0).unwrap().triangles().next(), Some([0, 1, 2]));
 /// # Ok::<(), calicofern::Refusal>(())
 /// ```
@@ -44,7 +44,7 @@ pub struct Hall {
 }
 
 /// A geometry to be added: what it is made of. Its counts of indices and triangles follow from its indices.
-#[derive(Debug, Clone, Copy, PartialEq, Eq)]
+#[derive(Debug, Clone, Copy, PartialEq, Eq, Hash)]
 pub struct NewGeometry<'a> {
     /// Its shader id.
     pub shader_id: u16,
@@ -81,12 +81,30 @@ impl Hall {
         Ok(hall)
     }
 
+    /// The same with a limit of one's own: check 24 refuses a hall that has more bytes, and no more than these are allocated for it.
+    ///
+    /// ```
+    /// use calicofern::{Check, Hall, Sections};
+    /// # let system = std::fs::read(concat!(env!("CARGO_MANIFEST_DIR"), "/samples/shoebox.system")).unwrap();
+    /// let refusal = Hall::from_sections_within(&Sections::new(&system, &[]), Sections::SYSTEM, 10_000).unwrap_err();
+    /// assert_eq!(refusal.check(), Check::HallBuffer);
+    /// assert!(refusal.to_string().ends_with(": 17397 bytes are needed, and the limit is 10000"));
+    /// ```
+    pub fn from_sections_within(sections: &Sections<'_>, at: u64, limit: usize) -> Result<Self, Refusal> {
+        let made = lend(limit, |hall| {
+            let lent = hall.len();
+            Refusal::told(calls::take_in(hall, 0, sections.system, sections.graphics, at), lent)
+        });
+        let list = made.map_err(|refusal| explain::taking_in(refusal, sections, at, limit))?;
+        Ok(Hall { n: list.len(), buffer: list })
+    }
+
     /// A hall of a list that is at hand, such as a file written earlier. Refused by checks 11 to 19.
     ///
     /// ```
     /// use calicofern::Hall;
     /// assert_eq!(Hall::from_list(Vec::new())?, Hall::new());
-    /// assert_eq!(Hall::from_list(vec![6, 0, 0]).unwrap_err().check(), 11);
+    /// assert_eq!(Hall::from_list(vec![6, 0, 0]).unwrap_err().number(), 11);
     /// # Ok::<(), calicofern::Refusal>(())
     /// ```
     pub fn from_list(list: Vec<u8>) -> Result<Self, Refusal> {
@@ -145,7 +163,7 @@ impl Hall {
         let found = self.geometry(model, geometry).and_then(|geometry| geometry.vertex_buffer);
         match found {
             Some(vertices) if vertex < u64::from(vertices.vertex_count) => vertices.read_vertex_attributes(vertex),
-            _ => Err(Refusal::absent(place)),
+            _ => Err(explain::absent(self.list(), place)),
         }
     }
 
@@ -153,14 +171,15 @@ impl Hall {
     pub fn unified_vertices(&self, model: u64, geometry: u64) -> Result<Vec<UnifiedVertex>, Refusal> {
         let place = Place { model, geometry: Some(geometry), vertex: None };
         let found = self.geometry(model, geometry).and_then(|geometry| geometry.vertex_buffer);
-        found.ok_or(Refusal::absent(place))?.to_unified_vertices()
+        found.ok_or_else(|| explain::absent(self.list(), place))?.to_unified_vertices()
     }
 
     /// Adds a model without geometries at the end.
     ///
     /// Refused by check 13 where there are 256 models, by 19 where the hall would be too large to be saved.
     pub fn add_model(&mut self, skeleton_binding: u32, render_mask_flags: u16) -> Result<(), Refusal> {
-        self.edit(|hall, n| calls::add_model(hall, n, skeleton_binding, render_mask_flags))
+        let done = self.edit(|hall, n| calls::add_model(hall, n, skeleton_binding, render_mask_flags));
+        done.map_err(|refusal| explain::adding_model(refusal, self.list()))
     }
 
     /// Adds a geometry at the end of the last model.
@@ -181,17 +200,14 @@ impl Hall {
             indices: geometry.indices,
         };
         let done = self.edit(|hall, n| calls::add_geometry(hall, n, given));
-        done.map_err(|refusal| {
-            refusal
-                .saying(11, "the vertices' bytes are not their count times their stride")
-                .saying(21, "there is no model to add a geometry to: add a model first")
-        })
+        done.map_err(|refusal| explain::adding_geometry(refusal, self.list(), &geometry))
     }
 
     /// Removes a geometry; later ones of its model get the number before. Refused by check 21 where there is no such model or geometry.
     pub fn remove_geometry(&mut self, model: u64, geometry: u64) -> Result<(), Refusal> {
         let done = self.edit(|hall, n| calls::remove_geometry(hall, n, model, geometry));
-        done.map_err(|refusal| refusal.at(Some(Place { model, geometry: Some(geometry), vertex: None })))
+        let place = Place { model, geometry: Some(geometry), vertex: None };
+        done.map_err(|refusal| explain::removing(refusal, self.list(), place))
     }
 
     /// Removes a model with its geometries; later ones get the number before. Refused by check 21 where there is no such model.
@@ -203,12 +219,13 @@ impl Hall {
     /// hall.add_model(0, 2)?;
     /// hall.remove_model(0)?;
     /// assert_eq!(hall.models().next().unwrap().render_mask_flags, 2);
-    /// assert_eq!(hall.remove_model(1).unwrap_err().check(), 21);
+    /// assert_eq!(hall.remove_model(1).unwrap_err().number(), 21);
     /// # Ok::<(), calicofern::Refusal>(())
     /// ```
     pub fn remove_model(&mut self, model: u64) -> Result<(), Refusal> {
         let done = self.edit(|hall, n| calls::remove_model(hall, n, model));
-        done.map_err(|refusal| refusal.at(Some(Place { model, geometry: None, vertex: None })))
+        let place = Place { model, geometry: None, vertex: None };
+        done.map_err(|refusal| explain::removing(refusal, self.list(), place))
     }
 
     /// Sets an attribute of one vertex; no other byte of the hall changes. The value is stored as the attribute's type stores it: halves are the nearest, of
@@ -225,9 +242,10 @@ impl Hall {
         value: VertexAttributeValue,
     ) -> Result<(), Refusal> {
         let (shape, numbers) = value.passed();
-        let place = [model, geometry, vertex, u64::from(semantic.index())];
-        let done = self.edit(|hall, n| calls::set_attribute(hall, n, place, shape, numbers));
-        done.map_err(|refusal| refusal.at(Some(Place { model, geometry: Some(geometry), vertex: Some(vertex) })))
+        let target = [model, geometry, vertex, u64::from(semantic.index())];
+        let done = self.edit(|hall, n| calls::set_attribute(hall, n, target, shape, numbers));
+        let place = Place { model, geometry: Some(geometry), vertex: Some(vertex) };
+        done.map_err(|refusal| explain::setting(refusal, self.list(), place, semantic, &value))
     }
 
     /// Replaces all indices of a geometry, and with them its counts of indices and triangles.
@@ -236,7 +254,8 @@ impl Hall {
     /// below the number of vertices; by 19 where the hall would be too large to be saved.
     pub fn replace_indices(&mut self, model: u64, geometry: u64, indices: &[u32]) -> Result<(), Refusal> {
         let done = self.edit(|hall, n| calls::replace_indices(hall, n, model, geometry, indices));
-        done.map_err(|refusal| refusal.at(Some(Place { model, geometry: Some(geometry), vertex: None })))
+        let place = Place { model, geometry: Some(geometry), vertex: None };
+        done.map_err(|refusal| explain::replacing(refusal, self.list(), place, indices))
     }
 
     /// The hall becomes what two sections hold behind the LOD header at an address. What it held before is gone.
@@ -247,7 +266,7 @@ impl Hall {
     /// Refused by checks 1 to 6 as [`Sections::hall_list`], and by 11 to 19 where what is there is no hall; 11 where a geometry lacks vertices or indices.
     pub fn take_in(&mut self, sections: &Sections<'_>, at: u64) -> Result<(), Refusal> {
         let done = self.edit(|hall, n| calls::take_in(hall, n, sections.system, sections.graphics, at));
-        done.map_err(|refusal| refusal.saying(11, "a geometry lacks its vertices or its indices: in a hall each has both"))
+        done.map_err(|refusal| explain::taking_in(refusal, sections, at, ALLOCATION_LIMIT))
     }
 
     /// The hall as a drawable's system section, its LOD header at [`Sections::SYSTEM`] and the graphics section empty. Taken in from there, it is the same
@@ -315,6 +334,12 @@ impl PartialEq for Hall {
 }
 
 impl Eq for Hall {}
+
+impl std::hash::Hash for Hall {
+    fn hash<H: std::hash::Hasher>(&self, state: &mut H) {
+        self.list().hash(state);
+    }
+}
 
 impl fmt::Debug for Hall {
     fn fmt(&self, out: &mut fmt::Formatter<'_>) -> fmt::Result {

@@ -32,12 +32,15 @@
 //! | save a hall as a drawable | [`Hall::save`] |
 //! | see where its counts disagree | [`DrawableGeometry::disagreements`], [`DrawableModel::disagreements`] |
 //! | read vertices as they are stored, or in one form | [`Vertices::read_vertex_attributes`], [`Vertices::to_unified_vertices`] |
+//! | read where the vertices are, and nothing else | [`Vertices::positions`] |
 //! | find a vertex buffer by its address | [`Sections::vertex_buffer_at`] |
+//! | ask why a call was refused | [`Refusal`], [`Check`] |
 //! | convert halves and normalised bytes | [`convert`] |
 
 #![deny(unsafe_code)]
 
 mod attribute;
+mod blocks;
 mod buffer;
 mod bytes;
 #[allow(unsafe_code)]
@@ -45,12 +48,18 @@ mod calls;
 mod check;
 pub mod convert;
 mod declaration;
+mod detail;
 mod disagreement;
+mod explain;
 mod geometry;
 mod hall;
+mod hall_check;
 mod lend;
 mod list;
 mod model;
+mod names;
+mod outline;
+mod reason;
 mod record;
 mod refusal;
 mod sections;
@@ -59,15 +68,22 @@ mod unified;
 
 pub use attribute::{VertexAttribute, VertexAttributeValue};
 pub use buffer::{InlineVertices, VertexBuffer, VertexBufferLayout, Vertices};
-pub use check::hall_check;
+pub use check::Check;
 pub use declaration::{VertexComponent, VertexDeclaration};
 pub use disagreement::Disagreement;
 pub use geometry::{DrawableGeometry, Geometries, IndexBuffer, Indices};
 pub use hall::{Hall, NewGeometry};
+pub use hall_check::hall_check;
 pub use lend::ALLOCATION_LIMIT;
 pub use list::HallList;
 pub use model::{DrawableModel, Models};
+pub use names::{nearest, UnknownName};
 pub use refusal::{Place, Refusal};
 pub use sections::Sections;
 pub use types::{VertexComponentType, VertexSemantic};
 pub use unified::UnifiedVertex;
+
+/// The example of README.md, for the documentation tests.
+#[cfg(doctest)]
+#[doc = include_str!("../README.md")]
+pub struct Readme;

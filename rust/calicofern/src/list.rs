@@ -3,7 +3,7 @@
 use crate::{calls, Models};
 
 /// The list of a drawable's models and geometries. It owns the list's bytes; models and geometries are views of them.
-#[derive(Debug, Clone, Default, PartialEq, Eq)]
+#[derive(Debug, Clone, Default, PartialEq, Eq, Hash)]
 pub struct HallList {
     bytes: Vec<u8>,
 }

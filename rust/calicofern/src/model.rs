@@ -3,7 +3,7 @@
 use crate::bytes::{u16_at, u32_at};
 use crate::disagreement::{equal, Disagreement};
 use crate::record::{Records, MODEL};
-use crate::{calls, DrawableGeometry, Geometries};
+use crate::{calls, Check, DrawableGeometry, Geometries};
 
 /// The models of a list, in order.
 #[derive(Debug, Clone)]
@@ -83,6 +83,6 @@ impl<'a> DrawableModel<'a> {
     /// The numbers of the model itself that disagree: those of its geometries are theirs ([`crate::DrawableGeometry::disagreements`]).
     pub fn disagreements(&self) -> Vec<Disagreement> {
         let entries = self.shader_mapping().len() as u64;
-        equal(12, ("shader mapping entries", entries), ("geometries", self.geometries().count() as u64)).into_iter().collect()
+        equal(Check::Mapping, ("shader mapping entries", entries), ("geometries", self.geometries().count() as u64)).into_iter().collect()
     }
 }

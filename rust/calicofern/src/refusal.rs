@@ -1,10 +1,13 @@
 //! What a call that cannot be done answers.
 
 use crate::calls::Told;
+use crate::detail::{behind, Detail};
+use crate::Check;
 use std::fmt;
 
 /// Where in a hall a check failed. Models, the geometries of a model, and vertices are counted from 0.
-#[derive(Debug, Clone, Copy, PartialEq, Eq)]
+#[derive(Debug, Clone, Copy, PartialEq, Eq, PartialOrd, Ord, Hash)]
+#[non_exhaustive]
 pub struct Place {
     /// The model's number.
     pub model: u64,
@@ -12,6 +15,18 @@ pub struct Place {
     pub geometry: Option<u64>,
     /// The number of the vertex in its geometry.
     pub vertex: Option<u64>,
+}
+
+impl Place {
+    /// A model, a geometry of it or a vertex of that one.
+    ///
+    /// ```
+    /// let place = calicofern::Place::new(1, Some(2), None);
+    /// assert_eq!(place.to_string(), "model 1, geometry 2");
+    /// ```
+    pub fn new(model: u64, geometry: Option<u64>, vertex: Option<u64>) -> Self {
+        Place { model, geometry, vertex }
+    }
 }
 
 /// `model 1, geometry 2, vertex 3`.
@@ -32,123 +47,102 @@ impl fmt::Display for Place {
 /// use calicofern::Sections;
 /// # let system = std::fs::read(concat!(env!("CARGO_MANIFEST_DIR"), "/samples/shoebox.system")).unwrap();
 /// let refusal = Sections::new(&system, &[]).hall_list_into(Sections::SYSTEM, &mut [0; 100]).unwrap_err();
-/// assert_eq!(refusal.check(), 7);
+/// assert_eq!(refusal.number(), 7);
 /// let needed = refusal.needed().unwrap();
 /// assert_eq!(
 ///     refusal.to_string(),
 ///     format!("check 7: the buffer for the list is too short: {needed} bytes are needed, 100 were lent")
 /// );
 /// ```
-#[derive(Debug, Clone, Copy, PartialEq, Eq)]
+#[derive(Debug, Clone, Copy, PartialEq, Eq, Hash)]
 pub struct Refusal {
-    check: u8,
-    needed: u64,
-    lent: u64,
-    /// Whether `lent` is a limit on what would have been allocated.
-    limit: bool,
+    check: Check,
     place: Option<Place>,
-    /// What the check asks for in this call, where that can be said more closely.
-    text: Option<&'static str>,
+    detail: Detail,
 }
 
 impl Refusal {
-    /// The number of the check that failed, 1 to 24.
-    pub fn check(&self) -> u8 {
+    /// The check that failed.
+    pub fn check(&self) -> Check {
         self.check
     }
 
-    /// Where it failed, if that is known: what a call named, or for checks 12 to 18 of a list the first place whose numbers disagree.
+    /// The number of the check that failed, 1 to 24.
+    pub fn number(&self) -> u8 {
+        self.check.number()
+    }
+
+    /// Where it failed, if that is known: what a call named, or for checks 12 to 18 of a list the first place that fails it.
     pub fn place(&self) -> Option<Place> {
         self.place
     }
 
     /// The bytes that the output needs, for checks 7, 10, 20 and 24.
     pub fn needed(&self) -> Option<u64> {
-        matches!(self.check, 7 | 10 | 20 | 24).then_some(self.needed)
+        match self.detail {
+            Detail::Bytes { needed, .. } => Some(needed),
+            _ => None,
+        }
     }
 
     /// The bytes that the output had, or was allowed to have, for checks 7, 10, 20 and 24.
     pub fn lent(&self) -> Option<u64> {
-        self.needed().map(|_| self.lent)
+        match self.detail {
+            Detail::Bytes { lent, .. } => Some(lent),
+            _ => None,
+        }
     }
 
-    /// What the check asks for, in words, without its number, the bytes and the place.
+    /// What the check asks for, in words, without its number, the place and the numbers that are wrong.
     pub fn text(&self) -> &'static str {
-        self.text.unwrap_or(Refusal::text_of(self.check))
-    }
-
-    fn text_of(check: u8) -> &'static str {
-        match check {
-            1 => "a section is too long: the system and the graphics section may have 67108864 bytes each",
-            2 => "the list of model pointers is not inside its section: the address and the count in the LOD header must lead to it",
-            3 => "a model is not inside its section: each model pointer that is not 0 must lead to 48 bytes",
-            4 => "a model's list of geometry pointers is not inside its section: the model's address and count must lead to it",
-            5 => "there are too many geometries: a list holds at most 16384",
-            6 => "a geometry is not inside its section: each geometry pointer that is not 0 must lead to 152 bytes",
-            7 => "the buffer for the list is too short",
-            8 => "there is no such vertex: its index must be below the number of vertices",
-            9 => "a vertex is not inside its data: every component that has bytes must end inside the vertex data",
-            10 => "the output is too short",
-            11 => "the list is not made of whole records in order: a model, then its geometries as kinds 2, 3, 4 and 5, each record as long as its own numbers say",
-            12 => "a model's mapping is not the list of its geometries' shader ids: it needs one entry for each geometry, in their order",
-            13 => "there are too many models or geometries: a hall has at most 256 models and 16384 geometries",
-            14 => "strides or layout disagree: the strides of geometry, declaration and vertex buffer must be equal and the layout 0, Legacy",
-            15 => "a declaration does not fit its vertices: it must declare a position that has bytes, and all components must fit into the stride",
-            16 => "vertex counts disagree: a geometry and its vertex buffer must have the same count, 1 to 65535",
-            17 => "index counts disagree: a geometry's count, its index buffer's count, the indices there are and 3 for each triangle must be equal, and at least 3",
-            18 => "an index names no vertex: each must be below the number of vertices",
-            19 => "the hall is too large to be saved: its image may have 67108864 bytes",
-            20 => "the buffer for the image is too short",
-            21 => "there is no such model, geometry or vertex: each is counted from 0, and a geometry can only be added where there is a model",
-            22 => "the vertices have no such attribute: the geometry's declaration must have this semantic, with a type that has bytes",
-            23 => "the value has not the shape of the attribute's type: Float wants one float, Half2 and Float2 two, Float3 three, Half4, Float4 and RGBA8SNorm four, UByte4 and Colour four bytes",
-            24 => "the buffer for the hall is too short",
-            _ => "a check that this version does not know",
+        match self.detail {
+            Detail::Words(words) => words,
+            _ => self.check.text(),
         }
     }
 
     /// The library's answer as a result: the bytes written, or the refusal of a call that lent so many bytes.
     pub(crate) fn told(told: Told, lent: usize) -> Result<usize, Refusal> {
-        match told {
-            // what was written lies in the output, so its length is a usize
-            Told { check: 0, size } => Ok(size as usize),
-            Told { check, size } => Err(Refusal { check, needed: size, lent: lent as u64, limit: false, place: None, text: None }),
-        }
+        // what was written lies in the output, so its length is a usize
+        let check = match told.check {
+            0 => return Ok(told.size as usize),
+            number => Check::from_number(number),
+        };
+        Err(match check.needs_bytes() {
+            true => Refusal::of(check).because(Detail::Bytes { needed: told.size, lent: lent as u64, limit: false }),
+            false => Refusal::of(check),
+        })
     }
 
-    /// Check 21 at a place of a hall.
-    pub(crate) fn absent(place: Place) -> Refusal {
-        Refusal { check: 21, needed: 0, lent: 0, limit: false, place: Some(place), text: None }
+    /// A refusal of which no more is known.
+    pub(crate) fn of(check: Check) -> Refusal {
+        Refusal { check, place: None, detail: Detail::Nothing }
     }
 
     /// The same refusal where no more than so many bytes may be allocated.
     pub(crate) fn with_limit(self, limit: usize) -> Refusal {
-        Refusal { lent: limit as u64, limit: true, ..self }
+        match self.detail {
+            Detail::Bytes { needed, .. } => self.because(Detail::Bytes { needed, lent: limit as u64, limit: true }),
+            _ => self,
+        }
     }
 
     /// The same refusal at a place.
-    pub(crate) fn at(self, place: Option<Place>) -> Refusal {
-        Refusal { place, ..self }
+    pub(crate) fn at(self, place: Place) -> Refusal {
+        Refusal { place: Some(place), ..self }
     }
 
-    /// The same refusal, with other words if it is by this check.
-    pub(crate) fn saying(self, check: u8, text: &'static str) -> Refusal {
-        if self.check == check {
-            Refusal { text: Some(text), ..self }
-        } else {
-            self
-        }
+    /// The same refusal with what else is known of it.
+    pub(crate) fn because(self, detail: Detail) -> Refusal {
+        Refusal { detail, ..self }
     }
 }
 
 impl fmt::Display for Refusal {
     fn fmt(&self, out: &mut fmt::Formatter<'_>) -> fmt::Result {
-        write!(out, "check {}: {}", self.check, self.text())?;
-        self.place.map_or(Ok(()), |place| write!(out, ": {place}"))?;
-        match (self.needed(), self.lent()) {
-            (Some(needed), Some(limit)) if self.limit => write!(out, ": {needed} bytes are needed, and the limit is {limit}"),
-            (Some(needed), Some(lent)) => write!(out, ": {needed} bytes are needed, {lent} were lent"),
-            _ => Ok(()),
+        match self.detail.line(self.place) {
+            Some(line) => write!(out, "{}: {line}", self.check),
+            None => write!(out, "{}: {}{}{}", self.check, self.check.text(), behind(self.place), self.detail),
         }
     }
 }
@@ -166,16 +160,6 @@ mod tests {
     #[test]
     fn an_acceptance_is_the_length() {
         assert_eq!(Refusal::told(Told { check: 0, size: 127 }, 200), Ok(127));
-    }
-
-    #[test]
-    fn each_check_has_its_own_line() {
-        let lines: Vec<String> = (1..=24).map(|check| format!("check {check}: {}", refusal(check, 0, 0).text())).collect();
-        for (line, check) in lines.iter().zip(1..) {
-            let text = line.strip_prefix(&format!("check {check}: ")).unwrap_or_else(|| panic!("{line}"));
-            assert!(!text.contains('\n') && text != refusal(25, 0, 0).text(), "{line}");
-            assert_eq!(lines.iter().filter(|other| other.ends_with(text)).count(), 1, "{line}");
-        }
     }
 
     #[test]
@@ -197,11 +181,16 @@ mod tests {
         let place = Place { model: 1, geometry: Some(2), vertex: Some(3) };
         assert_eq!(place.to_string(), "model 1, geometry 2, vertex 3");
         assert_eq!(Place { geometry: None, vertex: None, ..place }.to_string(), "model 1");
-        let refused = refusal(18, 0, 0).at(Some(place));
+        let refused = refusal(18, 0, 0).at(place);
         assert_eq!(refused.place(), Some(place));
         let line = "check 18: an index names no vertex: each must be below the number of vertices: model 1, geometry 2, vertex 3";
         assert_eq!(refused.to_string(), line);
-        assert_eq!(refused.saying(11, "other words"), refused);
-        assert_eq!(refused.saying(18, "other words").at(None).to_string(), "check 18: other words");
+        assert_eq!(refused.because(Detail::Words("other words")).to_string(), "check 18: other words");
+        assert_eq!(refused.because(Detail::Words("other words")).text(), "other words");
+    }
+
+    #[test]
+    fn a_refusal_is_small() {
+        assert!(size_of::<Refusal>() <= 104, "{}", size_of::<Refusal>());
     }
 }

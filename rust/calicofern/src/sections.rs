@@ -8,7 +8,7 @@ use crate::{calls, HallList, InlineVertices, Refusal, VertexBuffer, VertexBuffer
 ///
 /// A pointer in a drawable is an address: [`Sections::SYSTEM`] plus an offset in the system section, or [`Sections::GRAPHICS`] plus one in the
 /// graphics section.
-#[derive(Debug, Clone, Copy, Default, PartialEq, Eq)]
+#[derive(Debug, Clone, Copy, Default, PartialEq, Eq, Hash)]
 pub struct Sections<'a> {
     /// The system section.
     pub system: &'a [u8],
@@ -43,7 +43,7 @@ impl<'a> Sections<'a> {
     /// header[..8].copy_from_slice(&0x5000_1000u64.to_le_bytes());
     /// header[8] = 1;
     /// let refusal = Sections::new(&header, &[]).hall_list(Sections::SYSTEM).unwrap_err();
-    /// assert_eq!(refusal.check(), 2);
+    /// assert_eq!(refusal.number(), 2);
     /// # Ok::<(), calicofern::Refusal>(())
     /// ```
     pub fn hall_list(&self, at: u64) -> Result<HallList, Refusal> {

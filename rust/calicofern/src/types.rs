@@ -1,9 +1,11 @@
 //! What a component of a vertex means, and how it is stored.
 
+use crate::names::{find, UnknownName};
 use std::fmt;
+use std::str::FromStr;
 
 /// What a component of a vertex means.
-#[derive(Debug, Clone, Copy, PartialEq, Eq)]
+#[derive(Debug, Clone, Copy, PartialEq, Eq, PartialOrd, Ord, Hash)]
 #[allow(missing_docs)] // the names are the format's own words
 pub enum VertexSemantic {
     Position,
@@ -75,8 +77,24 @@ impl fmt::Display for VertexSemantic {
     }
 }
 
+/// By its name, whatever its case.
+///
+/// ```
+/// use calicofern::VertexSemantic;
+/// assert_eq!("texcoord0".parse(), Ok(VertexSemantic::TexCoord0));
+/// let error = "Postion".parse::<VertexSemantic>().unwrap_err();
+/// assert_eq!(error.to_string(), "'Postion' is no semantic; did you mean Position?");
+/// ```
+impl FromStr for VertexSemantic {
+    type Err = UnknownName;
+
+    fn from_str(name: &str) -> Result<Self, UnknownName> {
+        find("semantic", name, SEMANTICS.map(|(semantic, name)| (name, semantic)))
+    }
+}
+
 /// How a component of a vertex is stored.
-#[derive(Debug, Clone, Copy, PartialEq, Eq)]
+#[derive(Debug, Clone, Copy, PartialEq, Eq, PartialOrd, Ord, Hash)]
 pub enum VertexComponentType {
     /// No bytes.
     Nothing,
@@ -191,6 +209,23 @@ impl fmt::Display for VertexComponentType {
     }
 }
 
+/// By its name, whatever its case.
+///
+/// ```
+/// use calicofern::VertexComponentType;
+/// assert_eq!("rgba8snorm".parse(), Ok(VertexComponentType::Rgba8Snorm));
+/// let error = "Flaot3".parse::<VertexComponentType>().unwrap_err();
+/// assert_eq!(error.to_string(), "'Flaot3' is no type; did you mean Float3?");
+/// ```
+impl FromStr for VertexComponentType {
+    type Err = UnknownName;
+
+    fn from_str(name: &str) -> Result<Self, UnknownName> {
+        let known: [Self; 11] = std::array::from_fn(|nibble| Self::from_nibble(nibble as u8));
+        find("type", name, known.map(|component_type| (component_type.as_str(), component_type)))
+    }
+}
+
 #[cfg(test)]
 mod tests {
     use super::*;
@@ -210,5 +245,22 @@ mod tests {
         assert_eq!(sizes, [0, 4, 4, 8, 0, 8, 12, 16, 4, 4, 4, 0, 0, 0, 0, 0]);
         let counts: Vec<u8> = (0..16).map(|nibble| VertexComponentType::from_nibble(nibble).component_count()).collect();
         assert_eq!(counts, [0, 2, 1, 4, 0, 2, 3, 4, 4, 4, 4, 0, 0, 0, 0, 0]);
+    }
+    #[test]
+    fn names_are_read_back() {
+        for semantic in (0..16).map(VertexSemantic::from_index) {
+            assert_eq!(semantic.to_string().parse(), Ok(semantic));
+            assert_eq!(semantic.as_str().to_uppercase().parse(), Ok(semantic));
+        }
+        for component_type in (0..11).map(VertexComponentType::from_nibble) {
+            assert_eq!(component_type.to_string().parse(), Ok(component_type));
+            assert_eq!(component_type.as_str().to_lowercase().parse(), Ok(component_type));
+        }
+        for name in ["Unknown16", "Unknown", "", " Position", "0"] {
+            assert!(name.parse::<VertexSemantic>().is_err(), "{name}");
+        }
+        for name in ["Unk11", "Unknown", "", "FloatUnknown", "6"] {
+            assert!(name.parse::<VertexComponentType>().is_err(), "{name}");
+        }
     }
 }

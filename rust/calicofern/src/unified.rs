@@ -56,6 +56,23 @@ impl UnifiedVertex {
     }
 }
 
+/// A vertex of which nothing is declared.
+impl Default for UnifiedVertex {
+    fn default() -> Self {
+        UnifiedVertex {
+            position: [0.0; 3],
+            normal: [0.0, 0.0, 1.0],
+            color0: [255; 4],
+            color1: [255; 4],
+            texcoord0: [0.0; 2],
+            texcoord1: [0.0; 2],
+            tangent: [1.0, 0.0, 0.0, 1.0],
+            blend_weights: [0.0; 4],
+            blend_indices: [0; 4],
+        }
+    }
+}
+
 #[cfg(test)]
 mod tests {
     use super::*;
@@ -68,18 +85,7 @@ mod tests {
     #[test]
     fn a_vertex_without_components_has_the_defaults() {
         let nothing = VertexDeclaration { flags: 0, ..VertexDeclaration::position_only(4) };
-        let expected = UnifiedVertex {
-            position: [0.0; 3],
-            normal: [0.0, 0.0, 1.0],
-            color0: [255; 4],
-            color1: [255; 4],
-            texcoord0: [0.0; 2],
-            texcoord1: [0.0; 2],
-            tangent: [1.0, 0.0, 0.0, 1.0],
-            blend_weights: [0.0; 4],
-            blend_indices: [0; 4],
-        };
-        assert_eq!(vertices(Some(nothing), 4, 2, &[7; 8]).to_unified_vertices(), Ok(vec![expected; 2]));
+        assert_eq!(vertices(Some(nothing), 4, 2, &[7; 8]).to_unified_vertices(), Ok(vec![UnifiedVertex::default(); 2]));
     }
 
     /// Each field is its component, seen by the view of its width: of every type, with numbers that differ everywhere, NaNs among them.
@@ -110,7 +116,7 @@ mod tests {
     #[test]
     fn the_last_vertex_must_be_inside_the_data() {
         let refusal = vertices(None, 11, 2, &[0; 22]).to_unified_vertices().unwrap_err();
-        assert_eq!((refusal.check(), refusal.needed()), (9, None));
+        assert_eq!((refusal.number(), refusal.needed()), (9, None));
         assert_eq!(vertices(None, 12, 2, &[0; 24]).to_unified_vertices().unwrap().len(), 2);
     }
 
@@ -118,7 +124,7 @@ mod tests {
     fn a_short_output_is_not_touched() {
         let mut out = [5; 100];
         let refusal = vertices(None, 12, 2, &[0; 24]).unify_into(&mut out).unwrap_err();
-        assert_eq!((refusal.check(), refusal.needed(), refusal.lent()), (10, Some(168), Some(100)));
+        assert_eq!((refusal.number(), refusal.needed(), refusal.lent()), (10, Some(168), Some(100)));
         assert_eq!(out, [5; 100]);
         assert_eq!(vertices(None, 12, 1, &[0; 24]).unify_into(&mut out), Ok(84));
         assert_eq!(out[84..], [5; 16]);
@@ -128,7 +134,7 @@ mod tests {
     fn more_vertices_than_the_limit_are_refused() {
         // 2^32 - 1 vertices that all lie at the same place
         let refusal = vertices(None, 0, u32::MAX, &[0; 12]).to_unified_vertices().unwrap_err();
-        assert_eq!((refusal.check(), refusal.needed()), (10, Some(84 * u64::from(u32::MAX))));
+        assert_eq!((refusal.number(), refusal.needed()), (10, Some(84 * u64::from(u32::MAX))));
         assert_eq!(refusal.lent(), Some(crate::ALLOCATION_LIMIT as u64));
     }
 }

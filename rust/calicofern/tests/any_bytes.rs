@@ -1,6 +1,6 @@
 //! Whatever the bytes are, every function of the crate returns.
 
-use calicofern::{HallList, Models, Sections};
+use calicofern::{hall_check, Hall, HallList, Models, Sections};
 
 /// A sequence of numbers that is the same in each run.
 struct Numbers(u64);
@@ -18,7 +18,7 @@ impl Numbers {
 
 /// Reads all that a list has.
 fn read_all(list: &[u8]) -> u64 {
-    let mut read = 0;
+    let mut read = hall_check(list).map_or_else(|refusal| refusal.to_string().len() as u64, |()| 0);
     for model in Models::of(list) {
         read += u64::from(model.bone_index()) + model.shader_mapping().map(u64::from).sum::<u64>();
         read += model.disagreements().len() as u64;
@@ -32,6 +32,9 @@ fn read_all(list: &[u8]) -> u64 {
             // into a short output: the vertices of a wrong count may be billions
             let mut out = [0; 840];
             read += vertices.unify_into(&mut out).map_or(0, |length| length as u64);
+            if vertices.vertex_count < 100_000 {
+                read += vertices.positions().map_or(0, |positions| positions.len() as u64);
+            }
         }
     }
     read
@@ -77,9 +80,11 @@ fn drawables_with_changed_bytes() {
             let at = if numbers.below(2) == 0 { numbers.below(system.len()) } else { system.len() - 1 - numbers.below(1200) };
             system[at] = numbers.next() as u8;
         }
+        let taken_in = Hall::from_sections_within(&Sections::new(&system, &graphics), Sections::SYSTEM, 1 << 22);
+        assert!(taken_in.map_or_else(|refusal| refusal.to_string(), |hall| format!("{hall:?}")).len() > 10);
         match Sections::new(&system, &graphics).hall_list_within(Sections::SYSTEM, 1 << 22) {
             Ok(hall) => refused[0] += u64::from(read_all(hall.as_bytes()) > 0),
-            Err(refusal) => refused[usize::from(refusal.check())] += 1,
+            Err(refusal) => refused[usize::from(refusal.number())] += 1,
         }
     }
     assert!(refused[0] > 1000 && refused.iter().filter(|count| **count > 0).count() > 3, "{refused:?}");

@@ -239,7 +239,7 @@ fn a_script_that_fails_changes_nothing_and_names_its_line() {
     std::fs::write(&script, format!("{SCRIPT}replace-indices 0 0 0 1 3\n")).unwrap();
     let (status, said) = failed(&["edit", &file, &script]);
     assert_eq!(status, 1);
-    let words = "line 6: check 18: an index names no vertex: each must be below the number of vertices: model 0, geometry 0";
+    let words = "line 6: check 18: an index names no vertex: each must be below the number of vertices: model 0, geometry 0: index 2 of the geometry is 3, and it has 3 vertices";
     assert_eq!(said, format!("hall: {script}, {words}"));
     std::fs::write(&script, "add-model 0\n").unwrap();
     assert_eq!(failed(&["edit", &file, &script]), (2, format!("hall: {script}, line 1: the mask is missing")));
@@ -256,7 +256,7 @@ fn drawables_are_taken_in() {
     std::fs::write(&script, "take-in 0x50000000 samples/shoebox.system\n").unwrap();
     assert!(printed(&["edit", &file, &script]).contains(": 2 models, 7 geometries, 382 triangles, 17,397 bytes\n"));
     let (status, said) = failed(&["take-in", "samples/damaged", "--out", &file]);
-    assert_eq!((status, said.starts_with("hall: check 11: a geometry lacks its vertices")), (1, true), "{said}");
+    assert_eq!((status, said.starts_with("hall: check 11: model 0, geometry 3 has no vertices")), (1, true), "{said}");
 }
 
 /// What a file is, is known by its bytes, and each command works on it or says what to do.

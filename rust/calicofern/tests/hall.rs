@@ -37,11 +37,11 @@ fn refused(hall: &mut Hall, edit: impl Fn(&mut Hall) -> Result<(), calicofern::R
     let refusal = edit(hall).unwrap_err();
     assert_eq!(*hall, before);
     assert_eq!(hall.list(), before.list());
-    (refusal.check(), refusal.place(), refusal.to_string())
+    (refusal.number(), refusal.place(), refusal.to_string())
 }
 
 fn place(model: u64, geometry: Option<u64>, vertex: Option<u64>) -> Option<Place> {
-    Some(Place { model, geometry, vertex })
+    Some(Place::new(model, geometry, vertex))
 }
 
 #[test]
@@ -70,7 +70,7 @@ fn a_list_is_a_hall_or_is_refused_with_its_place() {
         let mut list = list.clone();
         list[at] = value;
         let refusal = Hall::from_list(list).unwrap_err();
-        (refusal.check(), refusal.place())
+        (refusal.number(), refusal.place())
     };
     // triangle count, vertex count, stride, type of the position, an index
     let geometry = place(0, Some(0), None);
@@ -80,9 +80,9 @@ fn a_list_is_a_hall_or_is_refused_with_its_place() {
     assert_eq!(changed(48, 7), (15, geometry));
     assert_eq!(changed(119, 3), (18, geometry));
     // the mapping's entry, the first record's length
-    assert_eq!(changed(12, 6), (12, None));
+    assert_eq!(changed(12, 6), (12, geometry));
     assert_eq!(changed(0, 7), (11, None));
-    assert_eq!(Hall::from_list(list[..126].to_vec()).unwrap_err().check(), 11);
+    assert_eq!(Hall::from_list(list[..126].to_vec()).unwrap_err().number(), 11);
 }
 
 #[test]
@@ -116,15 +116,15 @@ fn what_is_not_there_is_refused_with_its_place() {
     assert_eq!(refused(&mut hall, |hall| hall.remove_model(u64::MAX)).0, 21);
     let (check, where_it_was, line) = refused(&mut hall, |hall| hall.remove_geometry(0, 1));
     assert_eq!((check, where_it_was), (21, place(0, Some(1), None)));
-    assert!(line.ends_with(": model 0, geometry 1"), "{line}");
+    assert_eq!(line, "check 21: there is no geometry 1 of model 0: it has 1 geometry, numbered from 0");
     assert_eq!(refused(&mut hall, |hall| hall.replace_indices(1, 0, &[0, 1, 2])).0, 21);
     let value = VertexAttributeValue::Float3([0.0; 3]);
     let (check, where_it_was, line) = refused(&mut hall, |hall| hall.set_attribute(0, 0, 3, VertexSemantic::Position, value));
     assert_eq!((check, where_it_was), (21, place(0, Some(0), Some(3))));
-    assert!(line.ends_with(": model 0, geometry 0, vertex 3"), "{line}");
+    assert_eq!(line, "check 21: there is no vertex 3 of model 0, geometry 0: it has 3 vertices, numbered from 0");
     assert_eq!(hall.attributes(0, 0, 3).unwrap_err().place(), place(0, Some(0), Some(3)));
-    assert_eq!(hall.attributes(0, 1, 0).unwrap_err().check(), 21);
-    assert_eq!(hall.unified_vertices(1, 0).unwrap_err().check(), 21);
+    assert_eq!(hall.attributes(0, 1, 0).unwrap_err().number(), 21);
+    assert_eq!(hall.unified_vertices(1, 0).unwrap_err().number(), 21);
 
     let (check, _, line) = refused(&mut Hall::new(), |hall| hall.add_geometry(triangle(&[0; 36], &[0, 1, 2])));
     assert_eq!((check, line.as_str()), (21, "check 21: there is no model to add a geometry to: add a model first"));
@@ -153,7 +153,7 @@ fn a_geometry_is_judged_before_it_is_added() {
         assert_eq!(check, expected, "{line}");
     }
     let (_, _, line) = refused(&mut hall, |hall| hall.add_geometry(NewGeometry { vertex_count: 2, ..sound }));
-    assert_eq!(line, "check 11: the vertices' bytes are not their count times their stride");
+    assert_eq!(line, "check 11: the vertices' bytes are not their count times their stride: 36 given, but 2 x 12 is 24");
     // vertices further apart than their components need
     let spread = NewGeometry { vertex_stride: 16, declaration: VertexDeclaration::position_only(16), vertices: &[0; 48], ..sound };
     hall.add_geometry(spread).unwrap();
@@ -301,7 +301,7 @@ fn a_damaged_drawable_is_not_taken_in() {
     let mut hall = sample("shoebox");
     let system = section("damaged.system");
     let (check, _, line) = refused(&mut hall, |hall| hall.take_in(&Sections::new(&system, &[]), Sections::SYSTEM));
-    assert_eq!((check, line.as_str()), (11, "check 11: a geometry lacks its vertices or its indices: in a hall each has both"));
+    assert_eq!((check, line.as_str()), (11, "check 11: model 0, geometry 3 has no vertices: its address or inline data leads to none"));
     // a header that leads beyond the section
     let mut header = [0; 16];
     header[..8].copy_from_slice(&0x5000_1000u64.to_le_bytes());
@@ -349,7 +349,7 @@ fn a_lent_image_is_long_enough_or_untouched() {
     let hall = one_triangle();
     let mut out = [7; 600];
     let refusal = hall.save_into(&mut out[..575]).unwrap_err();
-    assert_eq!((refusal.check(), refusal.needed(), refusal.lent()), (20, Some(576), Some(575)));
+    assert_eq!((refusal.number(), refusal.needed(), refusal.lent()), (20, Some(576), Some(575)));
     assert_eq!(refusal.to_string(), "check 20: the buffer for the image is too short: 576 bytes are needed, 575 were lent");
     assert_eq!(out, [7; 600]);
     assert_eq!(hall.save_into(&mut out), Ok(576));

@@ -106,7 +106,7 @@ fn image_size(models: &[Vec<Geometry>]) -> u64 {
 
 /// The number of the check that a list fails, or 0.
 fn failed(list: &[u8]) -> u8 {
-    hall_check(list).map_or_else(|refusal| refusal.check(), |()| 0)
+    hall_check(list).map_or_else(|refusal| refusal.number(), |()| 0)
 }
 
 fn check(models: &[Vec<Geometry>]) -> u8 {

@@ -1,6 +1,6 @@
 //! The library on the drawables in samples/.
 
-use calicofern::{HallList, InlineVertices, Models, Sections, VertexAttributeValue, VertexBufferLayout};
+use calicofern::{Check, HallList, InlineVertices, Models, Sections, VertexAttributeValue, VertexBufferLayout};
 
 fn section(name: &str) -> Vec<u8> {
     let path = format!("{}/samples/{name}", env!("CARGO_MANIFEST_DIR"));
@@ -26,6 +26,7 @@ fn the_shoebox_is_whole() {
             let vertices = geometry.vertex_buffer.unwrap();
             let unified = vertices.to_unified_vertices().unwrap();
             assert_eq!(unified.len(), usize::from(geometry.vertices_count));
+            assert_eq!(vertices.positions().unwrap(), unified.iter().map(|vertex| vertex.position).collect::<Vec<_>>());
             assert_eq!(unified[0].normal.map(|part| part * part).iter().sum::<f32>().round(), 1.0);
         }
     }
@@ -56,6 +57,9 @@ fn every_layout_is_found() {
     assert_eq!(layouts, [0, 1, 2, 3]);
     for geometry in &geometries {
         assert_eq!(geometry.disagreements(), []);
+        let vertices = geometry.vertex_buffer.unwrap();
+        let unified = vertices.to_unified_vertices().unwrap();
+        assert_eq!(vertices.positions().unwrap(), unified.iter().map(|vertex| vertex.position).collect::<Vec<_>>());
     }
     // the mapping's entry at the original place, behind a null pointer
     assert_eq!(models[1].shader_mapping().collect::<Vec<_>>(), [9, 0, 2]);
@@ -88,7 +92,7 @@ fn packed_vertices_have_their_values() {
 fn counts_that_disagree_are_told() {
     let hall = hall("damaged");
     let geometries: Vec<_> = hall.models().next().unwrap().geometries().collect();
-    let checks = |place: usize| geometries[place].disagreements().iter().map(|pair| pair.check).collect::<Vec<_>>();
+    let checks = |place: usize| geometries[place].disagreements().iter().map(|pair| pair.check.map(Check::number)).collect::<Vec<_>>();
     assert_eq!(checks(0), []);
     assert_eq!(checks(1), [Some(17)]);
     assert_eq!(checks(2), [Some(16)]);
@@ -122,7 +126,7 @@ fn a_vertex_buffer_is_found_by_its_address() {
 #[test]
 fn refusals_have_their_numbers() {
     let system = section("shoebox.system");
-    let check = |bytes: &[u8]| Sections::new(bytes, &[]).hall_list(Sections::SYSTEM).unwrap_err().check();
+    let check = |bytes: &[u8]| Sections::new(bytes, &[]).hall_list(Sections::SYSTEM).unwrap_err().number();
     // the pointers of the models are the last bytes
     assert_eq!(check(&system[..system.len() - 16]), 2);
     let mut wrong = system.clone();
@@ -131,7 +135,7 @@ fn refusals_have_their_numbers() {
     assert_eq!(check(&wrong), 3);
     let long = vec![0; Sections::LIMIT + 1];
     assert_eq!(check(&long), 1);
-    assert_eq!(Sections::new(&[], &long).hall_list(0).unwrap_err().check(), 1);
+    assert_eq!(Sections::new(&[], &long).hall_list(0).unwrap_err().number(), 1);
     assert_eq!(Sections::new(&long[1..], &long[1..]).hall_list(Sections::SYSTEM).map(|hall| hall.models().count()), Ok(0));
 }
 
@@ -144,7 +148,7 @@ fn only_the_lists_bytes_are_written() {
     // one byte short: nothing changes
     let mut lent = vec![0xEE; length + 32];
     let refusal = sections.hall_list_into(Sections::SYSTEM, &mut lent[16..length + 15]).unwrap_err();
-    assert_eq!((refusal.check(), refusal.needed(), refusal.lent()), (7, Some(length as u64), Some(length as u64 - 1)));
+    assert_eq!((refusal.number(), refusal.needed(), refusal.lent()), (7, Some(length as u64), Some(length as u64 - 1)));
     assert!(lent.iter().all(|byte| *byte == 0xEE));
     // longer: the bytes around the list are as they were
     assert_eq!(sections.hall_list_into(Sections::SYSTEM, &mut lent[16..]), Ok(length));
@@ -160,7 +164,7 @@ fn a_list_beyond_the_limit_is_refused() {
     let length = sections.hall_list(Sections::SYSTEM).unwrap().into_bytes().len();
     assert!(sections.hall_list_within(Sections::SYSTEM, length).is_ok());
     let refusal = sections.hall_list_within(Sections::SYSTEM, length - 1).unwrap_err();
-    assert_eq!((refusal.check(), refusal.needed(), refusal.lent()), (7, Some(length as u64), Some(length as u64 - 1)));
+    assert_eq!((refusal.number(), refusal.needed(), refusal.lent()), (7, Some(length as u64), Some(length as u64 - 1)));
 }
 
 /// 3,000 models whose pointers are the same, each with 5 geometries over the same 64 KiB of vertices: 1 GB of list from a few hundred KB.
@@ -184,5 +188,5 @@ fn shared_pointers_ask_for_more_than_the_limit() {
     put(0x370, &16u16.to_le_bytes());
     let refusal = Sections::new(&system, &[]).hall_list_within(Sections::SYSTEM, 1 << 20).unwrap_err();
     let geometry = 6 + 14 + 6 + 7 + 16 * 0x1000;
-    assert_eq!((refusal.check(), refusal.needed()), (7, Some(3000 * (6 + 6 + 5 * geometry))));
+    assert_eq!((refusal.number(), refusal.needed()), (7, Some(3000 * (6 + 6 + 5 * geometry))));
 }

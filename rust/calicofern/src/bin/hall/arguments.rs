@@ -1,7 +1,7 @@
 //! The words behind the command.
 
 use crate::failure::Failure;
-use crate::nearest::nearest;
+use calicofern::nearest;
 
 /// Words that a command takes one after another; `finish` refuses those that nothing took.
 pub struct Arguments {

@@ -75,7 +75,7 @@ pub fn take_in(mut arguments: Arguments) -> Result<String, Failure> {
         return Err(Failure::Usage(format!("{} is a hall already: there is nothing to take in", source.name)));
     };
     let sections = drawable.sections();
-    let hall = progress::during("taking in the drawable", || Hall::from_sections(&sections, drawable.at))?;
+    let hall = progress::during("taking in the drawable", || Hall::from_sections_within(&sections, drawable.at, drawable.limit))?;
     written(&hall, &file)
 }
 

@@ -1,7 +1,7 @@
 //! What the program says about itself.
 
 use crate::failure::Failure;
-use crate::nearest::nearest;
+use calicofern::nearest;
 
 /// A command: its name, how it is called, and what it does.
 struct Command {

@@ -2,7 +2,6 @@
 #![deny(unsafe_code)]
 
 mod arguments;
-mod blocks;
 mod demo;
 mod failure;
 mod files;
@@ -12,7 +11,6 @@ mod help;
 mod left_out;
 mod list;
 mod memory;
-mod nearest;
 mod obj;
 mod output;
 mod progress;

@@ -1,12 +1,11 @@
 //! Positions and triangles as Wavefront OBJ.
 
-use crate::blocks::Blocks;
 use crate::failure::Failure;
 use crate::left_out::LeftOut;
 use crate::output::Output;
 use crate::progress::{self, Progress};
 use crate::table::counted;
-use calicofern::DrawableGeometry;
+use calicofern::{DrawableGeometry, Vertices};
 use std::io::{self, Write};
 
 /// A geometry and its numbers.
@@ -43,7 +42,7 @@ impl Obj {
     /// Adds a geometry's positions and triangles. What has no place in an OBJ file is left out and counted.
     fn add(&mut self, model: u64, number: u64, geometry: &DrawableGeometry<'_>, progress: &Progress) -> io::Result<()> {
         let group = format!("model_{model}_geometry_{number}_shader_{}", geometry.shader_id);
-        let positions = match geometry.vertex_buffer.as_ref().map(Blocks::positions) {
+        let positions = match geometry.vertex_buffer.as_ref().map(Vertices::positions) {
             Some(Ok(positions)) => positions,
             Some(Err(refusal)) => return self.skip(model, number, &group, &refusal.to_string()),
             None => return self.skip(model, number, &group, "no vertices"),

@@ -1,7 +1,6 @@
 //! `hall vertices`: the vertices of one geometry.
 
 use crate::arguments::Arguments;
-use crate::blocks::Blocks;
 use crate::failure::Failure;
 use crate::files::Files;
 use crate::left_out::LeftOut;
@@ -122,10 +121,9 @@ pub fn write_unified(vertices: &Vertices<'_>, path: &str) -> Result<String, Fail
     progress::of(&format!("writing {path}"), count, |progress| {
         vertices.unified_blocks(|block| {
             progress.add((block.len() / UnifiedVertex::SIZE) as u64);
-            out.write_all(block)
+            out.write_all(block).map_err(|error| out.failed(error))
         })
-    })?
-    .map_err(|error| out.failed(error))?;
+    })?;
     out.finish()?;
     Ok(format!("wrote {}, {} bytes each, to {path}\n", counted(count, "unified vertex", "unified vertices"), UnifiedVertex::SIZE))
 }

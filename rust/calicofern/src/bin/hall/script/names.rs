@@ -2,21 +2,18 @@
 
 use super::words::cut;
 use crate::failure::Failure;
-use crate::nearest::nearest;
-use calicofern::{VertexComponentType, VertexSemantic};
+use calicofern::{nearest, UnknownName, VertexComponentType, VertexSemantic};
 
 pub fn semantic(word: &str) -> Result<VertexSemantic, Failure> {
-    let known: Vec<VertexSemantic> = (0..16).map(VertexSemantic::from_index).collect();
-    let found = known.iter().find(|known| known.as_str().eq_ignore_ascii_case(word));
-    found.copied().ok_or_else(|| unknown("semantic", word, &known.iter().map(|known| known.as_str()).collect::<Vec<_>>()))
+    word.parse().map_err(|error: UnknownName| unknown("semantic", word, error.names()))
 }
 
 /// A type; one without bytes too.
 pub fn component_type(word: &str) -> Result<VertexComponentType, Failure> {
-    let known: Vec<VertexComponentType> = (0..11).map(VertexComponentType::from_nibble).collect();
-    let found = known.iter().find(|known| known.as_str().eq_ignore_ascii_case(word));
-    let useful = || known.iter().filter(|known| known.size_in_bytes() > 0).map(|known| known.as_str()).collect::<Vec<_>>();
-    found.copied().ok_or_else(|| unknown("type", word, &useful()))
+    word.parse().map_err(|error: UnknownName| {
+        let useful = |name: &str| name.parse().is_ok_and(|known: VertexComponentType| known.size_in_bytes() > 0);
+        unknown("type", word, &error.names().iter().copied().filter(|name| useful(name)).collect::<Vec<_>>())
+    })
 }
 
 /// There is no such call, semantic or type; the nearest name, where one is near.

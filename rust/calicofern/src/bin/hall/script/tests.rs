@@ -62,8 +62,14 @@ fn a_line_that_fails_is_named() {
     // what the library refuses
     assert!(failing("add-geometry 5 Position:Float3 vertices 0 0 0 indices 0 0 0").starts_with("script, line 1: check 21: "));
     assert!(given("replace-indices 0 0 0 1 3").starts_with("check 18: "));
-    assert!(given("set-attribute 0 0 3 Position 0 0 0").ends_with(": model 0, geometry 0, vertex 3"));
-    assert!(given("set-attribute 0 0 0 Position 0 0").starts_with("check 23: "));
+    assert_eq!(
+        given("set-attribute 0 0 3 Position 0 0 0"),
+        "check 21: there is no vertex 3 of model 0, geometry 0: it has 3 vertices, numbered from 0"
+    );
+    assert_eq!(
+        given("set-attribute 0 0 0 Position 0 0"),
+        "check 23: Position is Float3: three numbers, 2 are given: model 0, geometry 0, vertex 0"
+    );
     assert!(given("set-attribute 0 0 0 Normal 0 0 0").starts_with("check 22: "));
 }
 
