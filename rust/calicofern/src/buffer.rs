@@ -157,8 +157,8 @@ impl Vertices<'_> {
     /// ```
     /// use calicofern::{Refusal, VertexBufferLayout, Vertices};
     /// let many = Vertices { layout: VertexBufferLayout::Gen9, vertex_stride: 12, vertex_count: 10_000, declaration: None, data: &[0; 120_000] };
-    /// let mut bytes = Vec::new();
-    /// many.unified_blocks(|block| Ok::<(), Refusal>(bytes.extend(block)))?;
+    /// let mut bytes: Vec<u8> = Vec::new();
+    /// many.unified_blocks(|block| Ok::<(), Refusal>(bytes.extend_from_slice(block)))?;
     /// assert_eq!(bytes, many.to_unified_bytes()?);
     /// # Ok::<(), calicofern::Refusal>(())
     /// ```
