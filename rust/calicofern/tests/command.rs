@@ -273,8 +273,8 @@ fn a_hall_is_drawn() {
     let text = printed(&["show", &file, &drawing]);
     assert!(text.starts_with(&format!("wrote {drawing}: plan and long section of 2 models, 7 geometries, 382 triangles, ")), "{text}");
     let drawn = std::fs::read_to_string(&drawing).unwrap();
-    for shader in 0..5 {
-        assert!(drawn.contains(&format!("id=\"plan-{shader}\"")) && drawn.contains(&format!("id=\"long-section-{shader}\"")));
+    for geometry in ["0.0", "0.1", "0.2", "1.0", "1.1", "1.2", "1.3"] {
+        assert!(drawn.contains(&format!("id=\"plan-{geometry}\"")) && drawn.contains(&format!("id=\"long-section-{geometry}\"")));
     }
     assert_eq!(drawn.matches('Z').count(), 2 * 382);
     assert!(drawn.starts_with("<svg ") && drawn.ends_with("</svg>\n"));

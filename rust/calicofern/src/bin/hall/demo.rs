@@ -42,13 +42,13 @@ pub fn run(mut arguments: Arguments) -> Result<String, Failure> {
     vertices::write_all_obj(&hall, &path("shoebox.obj"))?;
 
     let mut edited = read_back(SHOEBOX)?;
-    show::draw(&edited, &path("shoebox.svg"))?;
+    show::draw(edited.list(), &path("shoebox.svg"))?;
     text += "\nThe balcony taken out, and one index too high, as an editor might do it\n\n";
     text += &edit(&mut edited)?;
     let image = edited.save()?;
     write(&path("edited.system"), &image)?;
     let again = read_back(&image)?;
-    show::draw(&again, &path("edited.svg"))?;
+    show::draw(again.list(), &path("edited.svg"))?;
     text += &format!("saved as a drawable of {}", counted(image.len() as u64, "byte", "bytes"));
     text += if again == edited { ", and read back as the same hall\n" } else { ", and read back as another hall\n" };
 
