@@ -2,6 +2,7 @@
 
 mod bounds;
 mod mesh;
+mod numbers;
 mod palette;
 mod png;
 mod raster;
@@ -141,9 +142,15 @@ mod tests {
     fn the_largest_geometries_are_numbered() {
         let made: Vec<Made> = (1..=160).map(|size| grid(0, 2, size as f32)).collect();
         let (text, drawn) = drawn(&list(&made));
-        assert_eq!(drawn.said(), "; each view has the numbers of its 150 largest of 160 geometries");
-        assert_eq!((text.matches("</title>0.").count(), text.matches("<g id=\"plan-0.").count()), (300, 160));
-        assert!(text.contains("</title>0.159</text>") && text.contains("</title>0.10</text>") && !text.contains("</title>0.9</text>"));
+        let written = ["plan", "long-section"].map(|view| {
+            let numbers = text.split(&format!("<g id=\"{view}-numbers\"")).nth(1).unwrap().split("</g>").next().unwrap();
+            assert!(numbers.contains("</title>0.159</text>") && !numbers.contains("</title>0.9</text>"));
+            numbers.matches("</title>0.").count()
+        });
+        let [plan, section] = written;
+        assert!((50..=150).contains(&plan) && (10..=150).contains(&section), "{written:?}");
+        assert_eq!(drawn.said(), format!("; numbers are written for {plan} (plan) and {section} (long section) of 160 geometries"));
+        assert_eq!(text.matches("<g id=\"plan-0.").count(), 160);
     }
 
     #[test]

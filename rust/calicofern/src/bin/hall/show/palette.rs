@@ -63,10 +63,10 @@ impl Style {
         format!("#{red:02x}{green:02x}{blue:02x}")
     }
 
-    /// The attributes of a path.
-    pub fn attributes(self) -> String {
+    /// The attributes of a path with lines of a width.
+    pub fn attributes(self, line: f64) -> String {
         let colour = self.colour();
-        let stroke = format!("stroke=\"{colour}\" stroke-width=\"0.6\"");
+        let stroke = format!("stroke=\"{colour}\" stroke-width=\"{line:.2}\"");
         match self.hatching {
             None => format!("fill=\"{colour}\" fill-opacity=\"{SURFACE}\" {stroke}"),
             Some(kind) => format!("fill=\"url(#hatching-{}-{kind})\" {stroke} stroke-dasharray=\"{}\"", self.slot, HATCHINGS[kind].2),

@@ -1,9 +1,10 @@
 //! The sheet: views one above the other, then the scale, the materials and what is left out.
 
+use super::numbers::numbers;
 use super::palette::{styles, Style};
 use super::raster::points;
 use super::scene::Scene;
-use super::view::{Drawing, View, NUMBERED};
+use super::view::{Drawing, View};
 use super::words::{escaped, round_metres, wrapped};
 use crate::table::{counted, grouped};
 use std::collections::BTreeMap;
@@ -20,7 +21,7 @@ const ROW: f64 = 22.0;
 pub struct Sheet<'a> {
     scene: &'a Scene,
     styles: BTreeMap<u16, Style>,
-    plan: View,
+    pub plan: View,
     section: View,
     scale: f64,
     picture: bool,
@@ -43,9 +44,11 @@ impl<'a> Sheet<'a> {
     /// What a reader should know who does not see the drawing, besides what is left out.
     pub fn said(&self) -> Vec<String> {
         let mut said = Vec::new();
-        let pieces = self.scene.pieces.len();
-        if pieces > NUMBERED {
-            said.push(format!("each view has the numbers of its {NUMBERED} largest of {} geometries", grouped(pieces as u64)));
+        let [plan, section] = [&self.plan, &self.section].map(|view| numbers(view, self.scene).len());
+        let all = self.scene.pieces.len();
+        if plan.min(section) < all {
+            let geometries = counted(all as u64, "geometry", "geometries");
+            said.push(format!("numbers are written for {plan} (plan) and {section} (long section) of {geometries}"));
         }
         if self.picture {
             let size = |view: &View| format!("{} x {}", grouped(points(view.width(self.scene))), grouped(points(view.height(self.scene))));
@@ -120,7 +123,7 @@ impl<'a> Sheet<'a> {
                 out,
                 "<path {} d=\"M{x:.2} {:.2}h26v13h-26z\"/><text x=\"{:.2}\" y=\"{y:.2}\" font-size=\"12\">shader {shader} \
                  <tspan fill=\"#666666\">{triangles}</tspan></text>",
-                style.attributes(),
+                style.attributes(0.6),
                 y - 11.0,
                 x + 34.0
             )?;

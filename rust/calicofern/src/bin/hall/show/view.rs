@@ -1,6 +1,7 @@
 //! One view of a scene: its triangles, the numbers of its geometries, and its measures.
 
 use super::mesh::each;
+use super::numbers::{numbers, Number};
 use super::palette::Style;
 use super::raster::Raster;
 use super::scene::{Piece, Scene};
@@ -9,10 +10,8 @@ use std::collections::BTreeMap;
 use std::fmt;
 use std::io::{self, Write};
 
-/// The most numbers that a view has, of the geometries that are largest in it.
-pub const NUMBERED: usize = 150;
-/// The height and the width of a number's letters.
-const LETTER: [f64; 2] = [6.5, 12.0];
+/// The width of lines.
+const LINE: f64 = 0.6;
 const AXES: [&str; 3] = ["x", "y", "z"];
 
 /// Everything drawn alike over all views.
@@ -47,7 +46,7 @@ impl View {
     }
 
     /// A point of the scene, from the upper left of the view.
-    fn place(&self, scene: &Scene, point: [f64; 3]) -> [f64; 2] {
+    pub fn place(&self, scene: &Scene, point: [f64; 3]) -> [f64; 2] {
         let (low, high) = (scene.bounds.low, scene.bounds.high);
         let y = if self.down { point[self.upright] - low[self.upright] } else { high[self.upright] - point[self.upright] };
         [(point[self.across] - low[self.across]) * self.scale, y * self.scale]
@@ -79,7 +78,7 @@ impl View {
         each(list, &format!("drawing the {}", self.name), |mesh, progress| {
             let Ok(mesh) = mesh else { return Ok(()) };
             let Some(piece) = pieces.next_if(|piece| piece.name == mesh.name) else { return Ok(()) };
-            let style = styles.get(&piece.shader).map_or(String::new(), |style| style.attributes());
+            let style = styles.get(&piece.shader).map_or(String::new(), |style| style.attributes(self.stroke(piece)));
             write!(out, "<g id=\"{}-{:#}\"><title>{}</title><path {style} d=\"", self.id(), piece.name, escaped(&piece.title()))?;
             for triangle in mesh.triangles(progress).flatten().filter(|triangle| scene.shows(triangle)) {
                 let [a, b, c] = turned(triangle.corners.map(|corner| self.place(scene, corner).map(Hundredths::of)), [self.left, self.top]);
@@ -105,47 +104,29 @@ impl View {
         raster.write(out, self.left, self.top)
     }
 
-    /// The numbers of the largest geometries, each near the middle of what is drawn of it.
     fn write_numbers(&self, drawing: &Drawing<'_>, out: &mut impl Write) -> io::Result<()> {
-        let scene = drawing.scene;
-        let mut pieces: Vec<&Piece> = scene.pieces.iter().collect();
-        pieces.sort_by(|one, other| {
-            let ([area, length], [other_area, other_length]) = (self.size(one), self.size(other));
-            other_area.total_cmp(&area).then(other_length.total_cmp(&length))
-        });
         writeln!(
             out,
-            "<g id=\"{}-numbers\" font-size=\"11\" text-anchor=\"middle\" stroke=\"white\" stroke-width=\"3\" stroke-linejoin=\"round\" \
+            "<g id=\"{}-numbers\" font-size=\"10\" text-anchor=\"middle\" stroke=\"white\" stroke-width=\"3\" stroke-linejoin=\"round\" \
              paint-order=\"stroke\">",
             self.id()
         )?;
-        let mut taken: Vec<[f64; 4]> = Vec::new();
-        for piece in pieces.into_iter().take(NUMBERED) {
-            let number = format!("{:#}", piece.name);
-            let [x, y] = self.free(scene, piece, number.len(), &mut taken);
+        for Number { piece, x, y } in numbers(self, drawing.scene) {
             let colour = drawing.styles.get(&piece.shader).map_or(String::new(), |style| style.colour());
             let title = escaped(&piece.title());
-            writeln!(out, "<text x=\"{x:.2}\" y=\"{y:.2}\" fill=\"{colour}\"><title>{title}</title>{number}</text>")?;
+            writeln!(out, "<text x=\"{x:.2}\" y=\"{y:.2}\" fill=\"{colour}\"><title>{title}</title>{:#}</text>", piece.name)?;
         }
         writeln!(out, "</g>")
     }
 
-    /// The area of a geometry's box in the view, and for those that are lines in it the length.
-    fn size(&self, piece: &Piece) -> [f64; 2] {
-        let (width, height) = (piece.bounds.extent(self.across), piece.bounds.extent(self.upright));
-        [width * height, width + height]
-    }
-
-    /// A place for a number: the middle of its geometry, or the nearest above or below where no other number is.
-    fn free(&self, scene: &Scene, piece: &Piece, letters: usize, taken: &mut Vec<[f64; 4]>) -> [f64; 2] {
-        let (low, high) = (self.place(scene, piece.bounds.low), self.place(scene, piece.bounds.high));
-        let (x, middle) = (self.left + (low[0] + high[0]) / 2.0, self.top + (low[1] + high[1]) / 2.0 + LETTER[1] / 3.0);
-        let half = letters as f64 * LETTER[0] / 2.0;
-        let lines = (0..12).flat_map(|line| [f64::from(line), -f64::from(line)]);
-        let free = |y: &f64| !taken.iter().any(|[left, right, _, at]| x - half < *right && x + half > *left && (y - at).abs() < LETTER[1]);
-        let y = lines.map(|line| middle + line * (LETTER[1] + 1.0)).find(free).unwrap_or(middle);
-        taken.push([x - half, x + half, 0.0, y]);
-        [x, y]
+    /// How wide the lines of a geometry's triangles are: finer where they are many, which would else cover all.
+    fn stroke(&self, piece: &Piece) -> f64 {
+        let [width, height] = [self.across, self.upright].map(|axis| piece.bounds.extent(axis) * self.scale);
+        if width.min(height) < 2.0 {
+            return LINE;
+        }
+        let edge = (2.0 * width * height / piece.triangles as f64).sqrt();
+        (edge * 0.04).clamp(LINE / 5.0, LINE)
     }
 
     /// The length of the axis that runs to the right, below the view.
