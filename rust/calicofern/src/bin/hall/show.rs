@@ -158,7 +158,7 @@ mod tests {
         let made: Vec<Made> = (0..30).map(|shader| grid(shader * 2, 3, 10.0)).collect();
         let (text, _) = drawn(&list(&made));
         for shader in 0..30 {
-            assert!(text.contains(&format!(">shader {} <tspan fill=\"#666666\">8 triangles</tspan>", shader * 2)), "{text}");
+            assert!(text.contains(&format!(">shader {} <tspan dx=\"4\" fill=\"#666666\">8 triangles</tspan>", shader * 2)), "{text}");
         }
         assert_eq!((text.matches("<pattern ").count(), text.matches("fill=\"url(#hatching-").count()), (6, 6 * 3));
     }
@@ -196,6 +196,15 @@ mod tests {
             assert!(said.ends_with(" away from the rest: 6 triangles at it are left out"), "{said}");
             assert!(text.contains(&said[2..]) && text.contains(">x 20.00 m<"), "{text}");
         }
+    }
+
+    #[test]
+    fn where_nothing_would_remain_all_is_drawn() {
+        // every triangle of the fan has the vertex far away
+        let ring = (0..20u8).map(|step| (f32::from(step) / 3.0).sin_cos()).map(|(x, y)| [x, y, 0.0]);
+        let positions: Vec<[f32; 3]> = ring.chain([[0.0, 0.0, 500.0]]).collect();
+        let (text, drawn_) = drawn(&list(&[Made::new(0, &positions, &(0..19).flat_map(|step| [step, step + 1, 20]).collect::<Vec<_>>())]));
+        assert!(drawn_.said().is_empty() && text.contains(">z 500.00 m<"), "{}", drawn_.said());
     }
 
     #[test]

@@ -81,21 +81,22 @@ mod tests {
     use super::super::testing::{grid, list, Made};
     use super::*;
 
-    /// Squares of a metre, so many in a row.
-    fn row(count: usize) -> Scene {
-        let made: Vec<Made> = (0..count)
-            .map(|place| {
-                let mut made = grid(0, 2, 1.0);
-                made.positions.as_mut().unwrap().iter_mut().for_each(|position| position[0] += place as f32);
-                made
-            })
-            .collect();
-        Scene::of(&list(&made))
+    /// Squares of a metre in rows.
+    fn squares(across: u16, down: u16) -> Scene {
+        let moved = |place: u16| {
+            let mut made = grid(0, 2, 1.0);
+            for position in made.positions.as_mut().unwrap() {
+                position[0] += f32::from(place % across);
+                position[1] += f32::from(place / across);
+            }
+            made
+        };
+        Scene::of(&list(&(0..across * down).map(moved).collect::<Vec<Made>>()))
     }
 
     #[test]
     fn a_number_is_in_the_middle() {
-        let scene = row(3);
+        let scene = squares(3, 1);
         let sheet = Sheet::of(&scene, 0);
         let found: Vec<[f64; 2]> = numbers(&sheet.plan, &scene).iter().map(|number| [number.x, number.y]).collect();
         assert_eq!(found, [[206.0, 198.0], [506.0, 198.0], [806.0, 198.0]]);
@@ -103,14 +104,13 @@ mod tests {
 
     #[test]
     fn few_have_all_their_numbers_and_many_those_that_have_a_place() {
-        for (count, least, most) in [(30, 30, 30), (31, 31, 31), (150, 30, 50), (400, 30, 50)] {
-            let scene = row(count);
-            let sheet = Sheet::of(&scene, 0);
-            let found = numbers(&sheet.plan, &scene);
-            assert!((least..=most).contains(&found.len()), "{} of {count}", found.len());
+        for (across, down, least, most) in [(30, 1, 30, 30), (31, 1, 31, 31), (150, 1, 30, 50), (15, 10, 150, 150), (15, 12, 150, 150)] {
+            let scene = squares(across, down);
+            let found = numbers(&Sheet::of(&scene, 0).plan, &scene).len();
+            assert!((least..=most).contains(&found), "{found} of {across} x {down}");
         }
         // all at one place
-        let same = Scene::of(&list(&vec![grid(0, 3, 1.0); 500]));
-        assert_eq!(numbers(&Sheet::of(&same, 0).plan, &same).len(), MOST);
+        let same = Scene::of(&list(&vec![grid(0, 3, 1.0); 30]));
+        assert_eq!(numbers(&Sheet::of(&same, 0).plan, &same).len(), 30);
     }
 }

@@ -30,6 +30,8 @@ pub const COLOURS: [[u8; 3]; 24] = [
     [0x00, 0x1e, 0x96],
 ];
 
+/// The width of lines.
+pub const LINE: f64 = 0.6;
 /// How opaque a surface is, and a line of its hatching.
 pub const SURFACE: f64 = 0.08;
 pub const HATCHED: f64 = 0.4;

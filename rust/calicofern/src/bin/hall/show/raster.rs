@@ -6,10 +6,11 @@ use std::io::{self, Write};
 
 /// Points for each unit of the drawing.
 const FINE: f64 = 2.0;
-/// How opaque a line is.
-const LINE: f64 = 0.9;
 /// Triangles without an edge of so many points are drawn without edges, which would cover all else.
 const SMALL: f64 = 8.0;
+
+/// No points, or no rows: the first is beyond the last.
+const NONE: (usize, usize) = (usize::MAX, 0);
 
 /// The number of points of a length.
 pub fn points(length: f64) -> u32 {
@@ -32,6 +33,8 @@ pub struct Raster {
     edges: Vec<u8>,
     /// The points of each row that the present geometry may have touched.
     touched: Vec<(usize, usize)>,
+    /// The rows that have such points.
+    rows: (usize, usize),
 }
 
 impl Raster {
@@ -46,7 +49,8 @@ impl Raster {
             colours: vec![255; across * down * 3],
             surface: vec![0; across * down],
             edges: vec![0; across * down],
-            touched: vec![(usize::MAX, 0); down],
+            touched: vec![NONE; down],
+            rows: NONE,
         }
     }
 
@@ -91,6 +95,7 @@ impl Raster {
     fn touch(&mut self, row: usize, first: usize, last: usize) {
         let (low, high) = self.touched[row];
         self.touched[row] = (low.min(first), high.max(last));
+        self.rows = (self.rows.0.min(row), self.rows.1.max(row));
     }
 
     /// Every point on the way, as an edge or else as surface.
@@ -112,8 +117,9 @@ impl Raster {
 
     /// Draws the present geometry over the others, each point once, and begins the next.
     pub fn finish_geometry(&mut self, style: Style) {
-        let [line, hatched, surface] = [LINE, HATCHED, SURFACE].map(|opacity| style.rgb().map(|own| blended(own, opacity)));
-        for row in 0..self.height {
+        let [line, hatched, surface] = [1.0, HATCHED, SURFACE].map(|opacity| style.rgb().map(|own| blended(own, opacity)));
+        let (top, bottom) = std::mem::replace(&mut self.rows, NONE);
+        for row in top..=bottom {
             let (first, last) = self.touched[row];
             for column in first..=last {
                 let at = row * self.width + column;
@@ -130,8 +136,8 @@ impl Raster {
                 }
             }
         }
-        for (row, touched) in self.touched.iter_mut().enumerate() {
-            let (first, last) = std::mem::replace(touched, (usize::MAX, 0));
+        for row in top..=bottom {
+            let (first, last) = std::mem::replace(&mut self.touched[row], NONE);
             if first <= last {
                 self.surface[row * self.width + first..=row * self.width + last].fill(0);
                 self.edges[row * self.width + first..=row * self.width + last].fill(0);

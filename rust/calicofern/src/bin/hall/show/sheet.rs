@@ -1,7 +1,7 @@
 //! The sheet: views one above the other, then the scale, the materials and what is left out.
 
 use super::numbers::numbers;
-use super::palette::{styles, Style};
+use super::palette::{styles, Style, LINE};
 use super::raster::points;
 use super::scene::Scene;
 use super::view::{Drawing, View};
@@ -122,8 +122,8 @@ impl<'a> Sheet<'a> {
             writeln!(
                 out,
                 "<path {} d=\"M{x:.2} {:.2}h26v13h-26z\"/><text x=\"{:.2}\" y=\"{y:.2}\" font-size=\"12\">shader {shader} \
-                 <tspan fill=\"#666666\">{triangles}</tspan></text>",
-                style.attributes(0.6),
+                 <tspan dx=\"4\" fill=\"#666666\">{triangles}</tspan></text>",
+                style.attributes(LINE),
                 y - 11.0,
                 x + 34.0
             )?;

@@ -36,7 +36,7 @@ impl Strays {
         let spread = Spread::of(list);
         let core = spread.core()?;
         let mut found = Found { core, others: Bounds::NONE, far: Vec::new() };
-        let Ok(()) = each::<Infallible>(list, "looking for vertices far away", |mesh, progress| {
+        let Ok(()) = each::<Infallible>(list, "comparing vertices far away", |mesh, progress| {
             mesh.iter().for_each(|mesh| found.add(mesh, progress));
             Ok(())
         });
@@ -61,7 +61,7 @@ impl Spread {
         });
         let kept = usize::try_from(most(corners.sum())).unwrap_or(usize::MAX).saturating_add(1);
         let mut spread = Spread { vertices: 0, kept, lowest: Default::default(), highest: Default::default() };
-        let Ok(()) = each::<Infallible>(list, "measuring the hall", |mesh, progress| {
+        let Ok(()) = each::<Infallible>(list, "looking for vertices far away", |mesh, progress| {
             if let Ok(mesh) = mesh {
                 mesh.corners().for_each(|(_, position)| spread.add(position));
                 progress.add(mesh.triangle_count());

@@ -2,7 +2,7 @@
 
 use super::mesh::each;
 use super::numbers::{numbers, Number};
-use super::palette::Style;
+use super::palette::{Style, LINE};
 use super::raster::Raster;
 use super::scene::{Piece, Scene};
 use super::words::{escaped, metres};
@@ -10,8 +10,6 @@ use std::collections::BTreeMap;
 use std::fmt;
 use std::io::{self, Write};
 
-/// The width of lines.
-const LINE: f64 = 0.6;
 const AXES: [&str; 3] = ["x", "y", "z"];
 
 /// Everything drawn alike over all views.
