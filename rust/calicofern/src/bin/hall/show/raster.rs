@@ -9,6 +9,14 @@ const FINE: f64 = 2.0;
 /// Triangles without an edge of so many points are drawn without edges, which would cover all else.
 const SMALL: f64 = 8.0;
 
+/// Edges that are drawn, and those that only belong to the surface.
+const EDGE: u8 = 1;
+const FAINT: u8 = 2;
+/// How much more opaque a surface is for each layer beyond the two of a closed room, up to the last that is told apart. Where triangles are too small to have
+/// edges, nothing else shows what is inside.
+const LAYER: f64 = 0.05;
+const LAYERS: usize = 10;
+
 /// No points, or no rows: the first is beyond the last.
 const NONE: (usize, usize) = (usize::MAX, 0);
 
@@ -28,7 +36,7 @@ pub struct Raster {
     /// Points for each unit, across and down; a little less than `FINE`, so that the last point is the end.
     fine: [f64; 2],
     colours: Vec<u8>,
-    /// What the present geometry covers, and where its edges are: 1, or else 0.
+    /// How often the present geometry covers a point, and whether edges go through it: `EDGE`, or `FAINT` for those of small triangles.
     surface: Vec<u8>,
     edges: Vec<u8>,
     /// The points of each row that the present geometry may have touched.
@@ -59,36 +67,38 @@ impl Raster {
         let [a, b, c] = corners.map(|[x, y]| [x * self.fine[0], y * self.fine[1]]);
         self.fill([a, b, c]);
         let length = |[x, y]: [f64; 2], [u, v]: [f64; 2]| (x - u).abs().max((y - v).abs());
-        let edge = length(a, b).max(length(b, c)).max(length(c, a)) >= SMALL;
-        self.line(a, b, edge);
-        self.line(b, c, edge);
-        self.line(c, a, edge);
+        let kind = if length(a, b).max(length(b, c)).max(length(c, a)) >= SMALL { EDGE } else { FAINT };
+        self.line(a, b, kind);
+        self.line(b, c, kind);
+        self.line(c, a, kind);
     }
 
-    /// Every point whose middle is inside.
+    /// Every point whose middle is inside. On an edge that two triangles share it is inside one of them.
     fn fill(&mut self, corners: [[f64; 2]; 3]) {
         let [a, b, c] = corners;
+        // from the upper end to the lower, for both triangles alike
+        let edges = [[a, b], [b, c], [c, a]].map(|[from, to]| if from[1] <= to[1] { [from, to] } else { [to, from] });
         let (top, bottom) = (a[1].min(b[1]).min(c[1]), a[1].max(b[1]).max(c[1]));
-        for row in top.ceil() as usize..(bottom.floor() as usize + 1).min(self.height) {
+        for row in top.ceil() as usize..(bottom.ceil() as usize).min(self.height) {
             let y = row as f64;
             let (mut first, mut last) = (f64::INFINITY, f64::NEG_INFINITY);
-            for [[x, from], [u, to]] in [[a, b], [b, c], [c, a]] {
-                if from != to && y >= from.min(to) && y <= from.max(to) {
+            for [[x, from], [u, to]] in edges {
+                if from <= y && y < to {
                     let at = x + (u - x) * ((y - from) / (to - from));
                     (first, last) = (first.min(at), last.max(at));
                 }
             }
-            if last.floor() >= first.ceil() {
-                self.span(row, first.ceil() as usize, last.floor() as usize);
-            }
+            self.span(row, first.ceil().max(0.0) as usize, last.ceil().max(0.0) as usize);
         }
     }
 
-    fn span(&mut self, row: usize, first: usize, last: usize) {
-        let last = last.min(self.width - 1);
-        if let Some(points) = self.surface.get_mut(row * self.width + first..=row * self.width + last) {
-            points.fill(1);
-            self.touch(row, first, last);
+    /// The points of a row from the first to the one before the end.
+    fn span(&mut self, row: usize, first: usize, end: usize) {
+        let end = end.min(self.width);
+        if first < end {
+            let points = &mut self.surface[row * self.width + first..row * self.width + end];
+            points.iter_mut().for_each(|layers| *layers = layers.saturating_add(1));
+            self.touch(row, first, end - 1);
         }
     }
 
@@ -98,26 +108,24 @@ impl Raster {
         self.rows = (self.rows.0.min(row), self.rows.1.max(row));
     }
 
-    /// Every point on the way, as an edge or else as surface.
-    fn line(&mut self, [x, y]: [f64; 2], [u, v]: [f64; 2], edge: bool) {
+    /// Every point on the way.
+    fn line(&mut self, [x, y]: [f64; 2], [u, v]: [f64; 2], kind: u8) {
         let steps = (u - x).abs().max((v - y).abs()).ceil().max(1.0);
         for step in 0..=steps as u32 {
             let part = f64::from(step) / steps;
             let column = ((x + (u - x) * part).round() as usize).min(self.width - 1);
             let row = ((y + (v - y) * part).round() as usize).min(self.height - 1);
             let at = row * self.width + column;
-            if edge {
-                self.edges[at] = 1;
-            } else {
-                self.surface[at] = 1;
-            }
+            self.edges[at] |= kind;
             self.touch(row, column, column);
         }
     }
 
     /// Draws the present geometry over the others, each point once, and begins the next.
     pub fn finish_geometry(&mut self, style: Style) {
-        let [line, hatched, surface] = [1.0, HATCHED, SURFACE].map(|opacity| style.rgb().map(|own| blended(own, opacity)));
+        let [line, hatched] = [1.0, HATCHED].map(|opacity| style.rgb().map(|own| blended(own, opacity)));
+        let opacity = |layers: usize| SURFACE + LAYER * layers.saturating_sub(2) as f64;
+        let surface: [_; LAYERS] = std::array::from_fn(|layer| style.rgb().map(|own| blended(own, opacity(layer + 1))));
         let (top, bottom) = std::mem::replace(&mut self.rows, NONE);
         for row in top..=bottom {
             let (first, last) = self.touched[row];
@@ -126,10 +134,10 @@ impl Raster {
                 if self.surface[at] | self.edges[at] == 0 {
                     continue;
                 }
-                let blended = match self.edges[at] == 1 || !self.inside(row, column) {
+                let blended = match self.edges[at] & EDGE > 0 || !self.inside(row, column) {
                     true => &line,
                     false if style.hatched(column as f64 / FINE, row as f64 / FINE) => &hatched,
-                    false => &surface,
+                    false => &surface[usize::from(self.surface[at]).clamp(1, LAYERS) - 1],
                 };
                 for (shown, blended) in self.colours[3 * at..3 * at + 3].iter_mut().zip(blended) {
                     *shown = blended[usize::from(*shown)];
@@ -148,7 +156,7 @@ impl Raster {
     /// Whether the present geometry covers the points around one too.
     fn inside(&self, row: usize, column: usize) -> bool {
         let at = row * self.width + column;
-        let covered = |at: usize| self.surface[at] | self.edges[at] == 1;
+        let covered = |at: usize| self.surface[at] | self.edges[at] > 0;
         row > 0
             && column > 0
             && row + 1 < self.height
@@ -181,10 +189,8 @@ mod tests {
         let colour = |raster: &Raster, x: usize, y: usize| raster.colours[(y * raster.width + x) * 3];
         let light = blended(style.rgb()[0], SURFACE)[255];
         let mut raster = Raster::new(50.0, 40.0);
-        for _ in 0..3 {
-            raster.add([[0.0, 0.0], [50.0, 0.0], [0.0, 40.0]]);
-            raster.add([[0.0, 0.0], [0.0, 40.0], [50.0, 0.0]]);
-        }
+        raster.add([[0.0, 0.0], [50.0, 0.0], [0.0, 40.0]]);
+        raster.add([[0.0, 0.0], [0.0, 40.0], [50.0, 0.0]]);
         raster.finish_geometry(style);
         assert_eq!((raster.width, raster.height), (100, 80));
         assert_eq!((colour(&raster, 20, 20), colour(&raster, 80, 60)), (light, 255));
@@ -192,6 +198,11 @@ mod tests {
         // the next geometry begins anew
         raster.finish_geometry(style);
         assert_eq!(colour(&raster, 20, 20), light);
+        // many layers of another are darker, up to a limit
+        let mut layered = Raster::new(50.0, 40.0);
+        (0..300).for_each(|_| layered.add([[0.0, 0.0], [50.0, 0.0], [0.0, 40.0]]));
+        layered.finish_geometry(style);
+        assert_eq!(colour(&layered, 20, 20), blended(style.rgb()[0], SURFACE + LAYER * 8.0)[255]);
     }
 
     #[test]
