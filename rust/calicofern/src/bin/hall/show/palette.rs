@@ -87,12 +87,13 @@ impl Style {
         ))
     }
 
-    /// Whether a line of its hatching goes through a point of the drawing.
-    pub fn hatched(self, x: f64, y: f64) -> bool {
-        self.hatching.is_some_and(|kind| {
-            let (angle, space, _) = HATCHINGS[kind];
-            let (sine, cosine) = angle.to_radians().sin_cos();
-            (x * cosine + y * sine).rem_euclid(space) < 1.0
+    /// Whether a line of its hatching goes through a point of the drawing, where it has one.
+    pub fn hatching(self) -> Option<impl Fn(f64, f64) -> bool> {
+        let (angle, space, _) = HATCHINGS[self.hatching?];
+        let (sine, cosine) = angle.to_radians().sin_cos();
+        Some(move |x: f64, y: f64| {
+            let along = (x * cosine + y * sine) / space;
+            (along - along.floor()) * space < 1.0
         })
     }
 }
@@ -156,7 +157,7 @@ mod tests {
         let all = styles(0..24 * 9);
         for (shader, style) in &all {
             assert_eq!((style.slot, style.hatching.is_some()), (usize::from(*shader) % 24, *shader >= 24));
-            assert_eq!(style.definition().is_some(), *shader >= 24);
+            assert_eq!((style.definition().is_some(), style.hatching().is_some()), (*shader >= 24, *shader >= 24));
             assert!(!all.iter().any(|(other, same)| other < shader && same == style), "{shader}");
         }
         assert_eq!(styles((0..=u16::MAX).step_by(24)).len(), 2731);

@@ -7,7 +7,7 @@ use std::io::{self, Write};
 /// Points for each unit of the drawing.
 const FINE: f64 = 2.0;
 /// Triangles without an edge of so many points are drawn without edges, which would cover all else.
-const SMALL: f64 = 8.0;
+const SMALL: f64 = 40.0;
 
 /// Edges that are drawn, and those that only belong to the surface.
 const EDGE: u8 = 1;
@@ -124,6 +124,7 @@ impl Raster {
     /// Draws the present geometry over the others, each point once, and begins the next.
     pub fn finish_geometry(&mut self, style: Style) {
         let [line, hatched] = [1.0, HATCHED].map(|opacity| style.rgb().map(|own| blended(own, opacity)));
+        let hatching = style.hatching();
         let opacity = |layers: usize| SURFACE + LAYER * layers.saturating_sub(2) as f64;
         let surface: [_; LAYERS] = std::array::from_fn(|layer| style.rgb().map(|own| blended(own, opacity(layer + 1))));
         let (top, bottom) = std::mem::replace(&mut self.rows, NONE);
@@ -136,7 +137,7 @@ impl Raster {
                 }
                 let blended = match self.edges[at] & EDGE > 0 || !self.inside(row, column) {
                     true => &line,
-                    false if style.hatched(column as f64 / FINE, row as f64 / FINE) => &hatched,
+                    false if hatching.as_ref().is_some_and(|on_line| on_line(column as f64 / FINE, row as f64 / FINE)) => &hatched,
                     false => &surface[usize::from(self.surface[at]).clamp(1, LAYERS) - 1],
                 };
                 for (shown, blended) in self.colours[3 * at..3 * at + 3].iter_mut().zip(blended) {
