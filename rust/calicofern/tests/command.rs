@@ -137,7 +137,7 @@ fn vertices_are_written() {
 #[test]
 fn a_whole_hall_is_written_as_obj() {
     let file = path(&folder("obj"), "hall.obj");
-    let left_out = "left out 1 geometry: model 0 geometry 3 (no vertices)";
+    let left_out = "1 geometry is left out: model 0 geometry 3 (no vertices)";
     let said = printed(&["vertices", "samples/damaged", "--obj", &file, "--all"]);
     assert_eq!(said, format!("wrote 132 positions and 170 triangles to {file}; {left_out}\n"));
     let text = std::fs::read_to_string(&file).unwrap();
@@ -162,7 +162,7 @@ fn obj_leaves_out_what_is_no_number() {
         .unwrap();
     printed(&["edit", &file, &script]);
     let said = printed(&["vertices", &file, "--all", "--obj", &obj]);
-    let left_out = "left out 2 triangles with a coordinate that is no finite number";
+    let left_out = "2 triangles with a coordinate that is no number are left out";
     assert_eq!(said, format!("wrote 6 positions and 2 triangles to {obj}; {left_out}\n"));
     let text = std::fs::read_to_string(&obj).unwrap();
     assert_eq!(
@@ -349,13 +349,19 @@ fn a_hall_is_drawn() {
     let (file, drawing) = (path(&folder, "shoebox.hall"), path(&folder, "shoebox.svg"));
     printed(&["take-in", "samples/shoebox", "--out", &file]);
     let text = printed(&["show", &file, &drawing]);
-    assert!(text.starts_with(&format!("wrote {drawing}: plan and long section of 2 models, 7 geometries, 382 triangles, ")), "{text}");
+    assert!(text.starts_with(&format!("wrote {drawing}: plan and long section of 2 models, 7 geometries, 382 triangles\n")), "{text}");
     let drawn = std::fs::read_to_string(&drawing).unwrap();
-    for shader in 0..5 {
-        assert!(drawn.contains(&format!("id=\"plan-{shader}\"")) && drawn.contains(&format!("id=\"long-section-{shader}\"")));
+    for geometry in ["0.0", "0.1", "0.2", "1.0", "1.1", "1.2", "1.3"] {
+        assert!(drawn.contains(&format!("id=\"plan-{geometry}\"")) && drawn.contains(&format!("id=\"long-section-{geometry}\"")));
     }
     assert_eq!(drawn.matches('Z').count(), 2 * 382);
     assert!(drawn.starts_with("<svg ") && drawn.ends_with("</svg>\n"));
+    // of a drawable that is no hall, what can be drawn
+    let said = printed(&["show", "samples/damaged", &drawing]);
+    let left_out = "1 geometry is left out: model 0 geometry 3 (no vertices)";
+    assert_eq!(said, format!("wrote {drawing}: plan and long section of 1 model, 4 geometries, 181 triangles; {left_out}\n"));
+    assert_eq!(strictly_failed(&["show", "samples/damaged", &drawing, "--strict"]), (said, format!("hall: --strict: {left_out}")));
+    printed(&["show", &file, &drawing, "--strict"]);
 }
 
 /// Work of more than a second says on standard error what is being done.

@@ -1,6 +1,6 @@
 //! What an output leaves out, for its closing line.
 
-use crate::table::counted;
+use crate::table::{counted, grouped};
 use std::fmt::Display;
 
 /// The most geometries that a line names.
@@ -9,42 +9,43 @@ const NAMED: usize = 8;
 /// What an output leaves out of the list that it shows.
 #[derive(Default)]
 pub struct LeftOut {
-    /// The first geometries, each with the reason.
+    /// The first geometries, each with the reason, and how many there are.
     named: Vec<String>,
     geometries: u64,
     /// Triangles with an index beyond the vertices.
     pub beyond: u64,
-    /// Triangles with a coordinate that is no finite number.
-    pub not_finite: u64,
+    /// Triangles with a coordinate that is a NaN or an infinity.
+    pub no_number: u64,
 }
 
 impl LeftOut {
-    pub fn geometry(&mut self, model: u64, geometry: u64, why: impl Display) {
+    pub fn geometry(&mut self, name: impl Display, why: impl Display) {
         self.geometries += 1;
         if self.named.len() < NAMED {
-            self.named.push(format!("model {model} geometry {geometry} ({why})"));
+            self.named.push(format!("{name} ({why})"));
         }
     }
 
-    pub fn any(&self) -> bool {
-        self.geometries + self.beyond + self.not_finite > 0
-    }
-
-    /// The end of a closing line: nothing where nothing is left out.
-    pub fn said(&self) -> String {
-        let mut text = String::new();
+    /// In plain words, a sentence for each kind; none where nothing is left out.
+    pub fn said(&self) -> Vec<String> {
+        let mut said = Vec::new();
         if self.geometries > 0 {
-            let more = self.geometries - self.named.len() as u64;
-            let more = if more > 0 { format!(" and {more} more") } else { String::new() };
-            text += &format!("; left out {}: {}{more}", counted(self.geometries, "geometry", "geometries"), self.named.join(", "));
+            let more = match self.geometries - self.named.len() as u64 {
+                0 => String::new(),
+                more => format!(" and {} more", grouped(more)),
+            };
+            said.push(format!("{}: {}{more}", are_left_out(self.geometries, "geometry", "geometries", ""), self.named.join(", ")));
         }
-        let triangles = |count: u64, why: &str| match count {
-            0 => String::new(),
-            _ => format!("; left out {} {why}", counted(count, "triangle", "triangles")),
-        };
-        text += &triangles(self.beyond, "whose indices are beyond the vertices");
-        text + &triangles(self.not_finite, "with a coordinate that is no finite number")
+        let triangles = [(self.beyond, " with an index beyond the vertices"), (self.no_number, " with a coordinate that is no number")];
+        let some = triangles.into_iter().filter(|(count, _)| *count > 0);
+        said.extend(some.map(|(count, which)| are_left_out(count, "triangle", "triangles", which)));
+        said
     }
+}
+
+/// `2 triangles at it are left out`.
+pub fn are_left_out(count: u64, one: &str, many: &str, which: &str) -> String {
+    format!("{}{which} {} left out", counted(count, one, many), if count == 1 { "is" } else { "are" })
 }
 
 #[cfg(test)]
@@ -54,20 +55,22 @@ mod tests {
     #[test]
     fn what_is_left_out_is_said() {
         let mut left = LeftOut::default();
-        assert_eq!((left.any(), left.said().as_str()), (false, ""));
-        left.geometry(0, 3, "no vertices");
-        left.not_finite = 1;
+        assert!(left.said().is_empty());
+        left.geometry("model 0 geometry 3", "no vertices");
+        left.no_number = 1;
+        left.beyond = 2;
         assert_eq!(
             left.said(),
-            "; left out 1 geometry: model 0 geometry 3 (no vertices); left out 1 triangle with a coordinate that is no finite number"
+            [
+                "1 geometry is left out: model 0 geometry 3 (no vertices)",
+                "2 triangles with an index beyond the vertices are left out",
+                "1 triangle with a coordinate that is no number is left out"
+            ]
         );
-        for geometry in 0..9 {
-            left.geometry(1, geometry, "no indices");
+        for geometry in 0..1009 {
+            left.geometry(format!("model 1 geometry {geometry}"), "no indices");
         }
-        assert!(
-            left.any() && left.said().contains("; left out 10 geometries: ") && left.said().contains(" and 2 more;"),
-            "{}",
-            left.said()
-        );
+        let line = &left.said()[0];
+        assert!(line.starts_with("1,010 geometries are left out: ") && line.ends_with("geometry 6 (no indices) and 1,002 more"), "{line}");
     }
 }

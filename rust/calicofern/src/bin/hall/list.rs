@@ -24,7 +24,7 @@ pub fn run(mut arguments: Arguments) -> Result<Said, Failure> {
         write(&path, hall.as_bytes())?;
         text += &format!("wrote the list, {}, to {path}\n", counted(hall.as_bytes().len() as u64, "byte", "bytes"));
     }
-    Ok(Said::strictly(text, strict, found.disagreeing()))
+    Ok(Said::strictly(text, strict, found.disagreeing().as_slice()))
 }
 
 /// The list under a line that says where it is from: its models and geometries, its declarations, and what disagrees.

@@ -12,7 +12,7 @@ use std::io::{self, Write};
 pub type Numbered<'a> = (u64, u64, DrawableGeometry<'a>);
 
 /// Writes geometries to a file, each as a group; what that came to, and what it left out.
-pub fn write<'a>(geometries: impl Iterator<Item = Numbered<'a>> + Clone, path: &str) -> Result<(String, LeftOut), Failure> {
+pub fn write<'a>(geometries: impl Iterator<Item = Numbered<'a>> + Clone, path: &str) -> Result<(String, Vec<String>), Failure> {
     let total = geometries.clone().map(|(_, _, geometry)| work(&geometry)).sum();
     let mut obj = Obj { out: Output::create(path)?, vertices: 0, triangles: 0, left_out: LeftOut::default() };
     let done = progress::of(&format!("writing {path}"), total, |progress| {
@@ -21,7 +21,9 @@ pub fn write<'a>(geometries: impl Iterator<Item = Numbered<'a>> + Clone, path: &
     done.map_err(|error| obj.out.failed(error))?;
     let made = format!("{} and {}", counted(obj.vertices, "position", "positions"), counted(obj.triangles, "triangle", "triangles"));
     obj.out.finish()?;
-    Ok((format!("wrote {made} to {path}{}\n", obj.left_out.said()), obj.left_out))
+    let left_out = obj.left_out.said();
+    let said: String = left_out.iter().map(|said| format!("; {said}")).collect();
+    Ok((format!("wrote {made} to {path}{said}\n"), left_out))
 }
 
 /// What a geometry's lines are counted as, for the progress.
@@ -48,7 +50,7 @@ impl Obj {
             None => return self.skip(model, number, &group, "no vertices"),
         };
         if geometry.triangles().len() == 0 {
-            self.left_out.geometry(model, number, "no triangles: its positions are written");
+            self.left_out.geometry(format_args!("model {model} geometry {number}"), "no indices");
         }
         writeln!(self.out, "g {group}")?;
         let before = self.vertices;
@@ -80,7 +82,7 @@ impl Obj {
                 writeln!(self.out, "f {a} {b} {c}")
             }
             _ => {
-                self.left_out.not_finite += 1;
+                self.left_out.no_number += 1;
                 Ok(())
             }
         }
@@ -88,7 +90,7 @@ impl Obj {
 
     /// Says in the file too why a geometry is not there.
     fn skip(&mut self, model: u64, number: u64, group: &str, why: &str) -> io::Result<()> {
-        self.left_out.geometry(model, number, why);
+        self.left_out.geometry(format_args!("model {model} geometry {number}"), why);
         writeln!(self.out, "# {group}: {why}")
     }
 }

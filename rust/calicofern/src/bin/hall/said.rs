@@ -9,9 +9,9 @@ pub struct Said {
 }
 
 impl Said {
-    /// The text, and a failure where `--strict` was given and there is something to fail by.
-    pub fn strictly(text: String, strict: bool, wrong: Option<String>) -> Said {
-        Said { text, failure: wrong.filter(|_| strict).map(Failure::Strict) }
+    /// The text, and a failure where `--strict` was given and something is wrong.
+    pub fn strictly(text: String, strict: bool, wrong: &[String]) -> Said {
+        Said { text, failure: (strict && !wrong.is_empty()).then(|| Failure::Strict(wrong.join("; "))) }
     }
 }
 

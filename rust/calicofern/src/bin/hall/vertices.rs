@@ -3,7 +3,6 @@
 use crate::arguments::Arguments;
 use crate::failure::Failure;
 use crate::files::Files;
-use crate::left_out::LeftOut;
 use crate::obj;
 use crate::output::Output;
 use crate::progress;
@@ -55,12 +54,12 @@ pub fn run(mut arguments: Arguments) -> Result<Said, Failure> {
     let (_, hall) = source.list()?;
     if let (true, Some(path)) = (asked.all, &asked.obj) {
         let (text, left_out) = obj::write(hall.models().geometries(), path)?;
-        return Ok(strictly(text, asked.strict, &left_out));
+        return Ok(Said::strictly(text, asked.strict, &left_out));
     }
     let (model, geometry) = (asked.model.unwrap_or(0), asked.geometry.unwrap_or(0));
     let found = geometry_of(&hall, model, geometry)?;
     let vertices = vertices_of(&found, model, geometry)?;
-    let (mut text, mut left_out) = (String::new(), LeftOut::default());
+    let (mut text, mut left_out) = (String::new(), Vec::new());
     if let Some(path) = &asked.unified {
         text += &write_unified(&vertices, path)?;
     }
@@ -72,13 +71,7 @@ pub fn run(mut arguments: Arguments) -> Result<Said, Failure> {
     if asked.unified.is_none() && asked.obj.is_none() {
         text += &shown(&vertices, asked.first.unwrap_or(0), asked.count.unwrap_or(8))?;
     }
-    Ok(strictly(text, asked.strict, &left_out))
-}
-
-/// Left out is what fails with `--strict`.
-pub fn strictly(text: String, strict: bool, left_out: &LeftOut) -> Said {
-    let wrong = left_out.any().then(|| left_out.said().trim_start_matches("; ").to_string());
-    Said::strictly(text, strict, wrong)
+    Ok(Said::strictly(text, asked.strict, &left_out))
 }
 
 fn geometry_of(hall: &HallList, model: u64, geometry: u64) -> Result<DrawableGeometry<'_>, Failure> {
