@@ -5,7 +5,7 @@ use crate::failure::Failure;
 use crate::output::write;
 use crate::source::{Drawable, Source, What};
 use crate::table::{counted, Table};
-use crate::{list, obj, show, vertices};
+use crate::{list, mesh, obj, show, vertices};
 use calicofern::{Hall, Refusal, Sections, UnifiedVertex, Vertices, ALLOCATION_LIMIT};
 use std::fs;
 use std::path::PathBuf;
@@ -33,7 +33,7 @@ pub fn run(mut arguments: Arguments) -> Result<String, Failure> {
         vertices::write_unified(&stored, &path("balcony.unified"))?;
     }
 
-    obj::write(hall.models().geometries(), &path("shoebox.obj"))?;
+    obj::write(mesh::geometries(hall.as_bytes()), &path("shoebox.obj"))?;
 
     let mut edited = read_back(SHOEBOX)?;
     show::draw(edited.list(), &path("shoebox.svg"))?;

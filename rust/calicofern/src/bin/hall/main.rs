@@ -11,6 +11,7 @@ mod help;
 mod left_out;
 mod list;
 mod memory;
+mod mesh;
 mod obj;
 mod output;
 mod progress;

@@ -2,21 +2,22 @@
 
 use crate::failure::Failure;
 use crate::left_out::LeftOut;
+use crate::mesh::{Mesh, Name};
 use crate::output::Output;
 use crate::progress::{self, Progress};
 use crate::table::counted;
-use calicofern::{DrawableGeometry, Vertices};
+use calicofern::DrawableGeometry;
 use std::io::{self, Write};
 
-/// A geometry and its numbers.
-pub type Numbered<'a> = (u64, u64, DrawableGeometry<'a>);
-
 /// Writes geometries to a file, each as a group; what that came to, and what it left out.
-pub fn write<'a>(geometries: impl Iterator<Item = Numbered<'a>> + Clone, path: &str) -> Result<(String, Vec<String>), Failure> {
-    let total = geometries.clone().map(|(_, _, geometry)| work(&geometry)).sum();
+pub fn write<'a>(
+    geometries: impl Iterator<Item = (Name, DrawableGeometry<'a>)> + Clone,
+    path: &str,
+) -> Result<(String, Vec<String>), Failure> {
+    let total = geometries.clone().map(|(_, geometry)| work(&geometry)).sum();
     let mut obj = Obj { out: Output::create(path)?, vertices: 0, triangles: 0, left_out: LeftOut::default() };
     let done = progress::of(&format!("writing {path}"), total, |progress| {
-        geometries.into_iter().try_for_each(|(model, number, geometry)| obj.add(model, number, &geometry, progress))
+        geometries.into_iter().try_for_each(|(name, geometry)| obj.add(name, geometry, progress))
     });
     done.map_err(|error| obj.out.failed(error))?;
     let made = format!("{} and {}", counted(obj.vertices, "position", "positions"), counted(obj.triangles, "triangle", "triangles"));
@@ -42,32 +43,32 @@ struct Obj {
 
 impl Obj {
     /// Adds a geometry's positions and triangles. What has no place in an OBJ file is left out and counted.
-    fn add(&mut self, model: u64, number: u64, geometry: &DrawableGeometry<'_>, progress: &Progress) -> io::Result<()> {
-        let group = format!("model_{model}_geometry_{number}_shader_{}", geometry.shader_id);
-        let positions = match geometry.vertex_buffer.as_ref().map(Vertices::positions) {
-            Some(Ok(positions)) => positions,
-            Some(Err(refusal)) => return self.skip(model, number, &group, &refusal.to_string()),
-            None => return self.skip(model, number, &group, "no vertices"),
+    fn add(&mut self, name: Name, geometry: DrawableGeometry<'_>, progress: &Progress) -> io::Result<()> {
+        let group = format!("model_{}_geometry_{}_shader_{}", name.model, name.geometry, geometry.shader_id);
+        let mesh = match Mesh::of(name, geometry) {
+            Ok(mesh) => mesh,
+            Err(missing) => {
+                writeln!(self.out, "# {group}: {}", missing.why)?;
+                self.left_out.geometry(missing.name, missing.why);
+                return Ok(());
+            }
         };
-        if geometry.triangles().len() == 0 {
-            self.left_out.geometry(format_args!("model {model} geometry {number}"), "no indices");
-        }
         writeln!(self.out, "g {group}")?;
         let before = self.vertices;
         // OBJ has no way to write a NaN or an infinity: such vertices are not written, and those behind them move up
         let mut gaps = Vec::new();
-        for (position, vertex) in positions.iter().zip(0u32..) {
+        for (position, vertex) in mesh.positions.iter().zip(0u32..) {
             match position {
                 [x, y, z] if [x, y, z].iter().all(|number| number.is_finite()) => writeln!(self.out, "v {x} {y} {z}")?,
                 _ => gaps.push(vertex),
             }
         }
-        self.vertices += (positions.len() - gaps.len()) as u64;
-        progress.add(positions.len() as u64);
-        let face = Faces { before, count: positions.len() as u64, gaps: &gaps };
-        geometry.triangles().try_for_each(|triangle| {
+        self.vertices += (mesh.positions.len() - gaps.len()) as u64;
+        progress.add(mesh.positions.len() as u64);
+        let faces = Faces { before, count: mesh.positions.len() as u64, gaps: &gaps };
+        mesh.geometry.triangles().try_for_each(|triangle| {
             progress.add(1);
-            self.face(&face, triangle)
+            self.face(&faces, triangle)
         })
     }
 
@@ -86,12 +87,6 @@ impl Obj {
                 Ok(())
             }
         }
-    }
-
-    /// Says in the file too why a geometry is not there.
-    fn skip(&mut self, model: u64, number: u64, group: &str, why: &str) -> io::Result<()> {
-        self.left_out.geometry(format_args!("model {model} geometry {number}"), why);
-        writeln!(self.out, "# {group}: {why}")
     }
 }
 

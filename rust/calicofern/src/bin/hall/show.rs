@@ -1,7 +1,6 @@
 //! `hall show`: a hall seen from above and from the side, as SVG.
 
 mod bounds;
-mod mesh;
 mod numbers;
 mod palette;
 mod png;
@@ -234,7 +233,7 @@ mod tests {
         let huge = Made::new(0, &[[f32::MAX; 3], [-f32::MAX; 3], [1e-45; 3]], &[0, 1, 2]);
         let tiny = Made::new(0, &[[0.0; 3], [1e-45; 3], [1e-45, 0.0, 0.0]], &[0, 1, 2]);
         for made in [huge, tiny] {
-            assert!(drawn(&list(&[made.clone()])).1.said().is_empty());
+            assert!(drawn(&list(std::slice::from_ref(&made))).1.said().is_empty());
             drawn_with(&list(&[made]), 0);
         }
     }

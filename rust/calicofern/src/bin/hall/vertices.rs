@@ -3,6 +3,7 @@
 use crate::arguments::Arguments;
 use crate::failure::Failure;
 use crate::files::Files;
+use crate::mesh::{geometries, Name};
 use crate::obj;
 use crate::output::Output;
 use crate::progress;
@@ -53,7 +54,7 @@ pub fn run(mut arguments: Arguments) -> Result<Said, Failure> {
     arguments.finish()?;
     let (_, hall) = source.list()?;
     if let (true, Some(path)) = (asked.all, &asked.obj) {
-        let (text, left_out) = obj::write(hall.models().geometries(), path)?;
+        let (text, left_out) = obj::write(geometries(hall.as_bytes()), path)?;
         return Ok(Said::strictly(text, asked.strict, &left_out));
     }
     let (model, geometry) = (asked.model.unwrap_or(0), asked.geometry.unwrap_or(0));
@@ -64,7 +65,7 @@ pub fn run(mut arguments: Arguments) -> Result<Said, Failure> {
         text += &write_unified(&vertices, path)?;
     }
     if let Some(path) = &asked.obj {
-        let (said, left) = obj::write(std::iter::once((model, geometry, found)), path)?;
+        let (said, left) = obj::write(std::iter::once((Name { model, geometry }, found)), path)?;
         text += &said;
         left_out = left;
     }

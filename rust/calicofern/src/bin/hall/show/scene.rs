@@ -1,10 +1,11 @@
 //! What a drawing shows, and what it leaves out.
 
 use super::bounds::Bounds;
-use super::mesh::{each, Fault, Mesh, Triangle};
 use super::strays::Strays;
-use super::words::{metres, Name};
+use super::words::metres;
 use crate::left_out::{are_left_out, LeftOut};
+use crate::mesh::Name;
+use crate::mesh::{each, Fault, Mesh, Triangle};
 use crate::progress::Progress;
 use crate::table::counted;
 use std::collections::BTreeMap;

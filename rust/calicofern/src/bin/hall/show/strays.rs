@@ -1,8 +1,8 @@
 //! Vertices so far away that the rest would shrink to a dot.
 
 use super::bounds::Bounds;
-use super::mesh::{each, geometries, Mesh};
-use super::words::Name;
+use crate::mesh::Name;
+use crate::mesh::{each, geometries, Mesh};
 use crate::progress::Progress;
 use std::collections::{BinaryHeap, HashSet};
 use std::convert::Infallible;

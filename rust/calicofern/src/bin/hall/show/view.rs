@@ -1,11 +1,11 @@
 //! One view of a scene: its triangles, the numbers of its geometries, and its measures.
 
-use super::mesh::each;
 use super::numbers::{numbers, Number};
 use super::palette::{Style, LINE};
 use super::raster::Raster;
 use super::scene::{Piece, Scene};
 use super::words::{escaped, metres};
+use crate::mesh::each;
 use std::collections::BTreeMap;
 use std::fmt;
 use std::io::{self, Write};

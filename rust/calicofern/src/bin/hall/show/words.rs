@@ -1,24 +1,6 @@
 //! Numbers and names as text.
 
 use crate::table::grouped;
-use std::fmt;
-
-/// A geometry of a model, both counted from 0.
-#[derive(Debug, Clone, Copy, PartialEq, Eq, PartialOrd, Ord)]
-pub struct Name {
-    pub model: u64,
-    pub geometry: u64,
-}
-
-/// `model 1 geometry 2`; with `{:#}` short, `1.2`.
-impl fmt::Display for Name {
-    fn fmt(&self, out: &mut fmt::Formatter<'_>) -> fmt::Result {
-        match out.alternate() {
-            true => write!(out, "{}.{}", self.model, self.geometry),
-            false => write!(out, "model {} geometry {}", self.model, self.geometry),
-        }
-    }
-}
 
 /// A length with as many digits as say something.
 pub fn metres(length: f64) -> String {
@@ -60,6 +42,7 @@ pub fn wrapped(text: &str, letters: usize) -> Vec<String> {
 #[cfg(test)]
 mod tests {
     use super::*;
+    use crate::mesh::Name;
 
     #[test]
     fn lengths_have_sensible_digits() {

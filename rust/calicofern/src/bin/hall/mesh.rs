@@ -1,14 +1,31 @@
 //! The triangles of a list, one geometry at a time.
 
-use super::words::Name;
 use crate::progress::{self, Progress};
 use calicofern::{DrawableGeometry, Models};
+use std::fmt;
+
+/// A geometry of a model, both counted from 0.
+#[derive(Debug, Clone, Copy, PartialEq, Eq, PartialOrd, Ord)]
+pub struct Name {
+    pub model: u64,
+    pub geometry: u64,
+}
+
+/// `model 1 geometry 2`; with `{:#}` short, `1.2`.
+impl fmt::Display for Name {
+    fn fmt(&self, out: &mut fmt::Formatter<'_>) -> fmt::Result {
+        match out.alternate() {
+            true => write!(out, "{}.{}", self.model, self.geometry),
+            false => write!(out, "model {} geometry {}", self.model, self.geometry),
+        }
+    }
+}
 
 /// A geometry's positions and triangles.
 pub struct Mesh<'a> {
     pub name: Name,
     pub shader: u16,
-    geometry: DrawableGeometry<'a>,
+    pub geometry: DrawableGeometry<'a>,
     pub positions: Vec<[f32; 3]>,
 }
 
@@ -32,7 +49,7 @@ pub enum Fault {
 }
 
 impl<'a> Mesh<'a> {
-    fn of(name: Name, geometry: DrawableGeometry<'a>) -> Result<Mesh<'a>, Missing> {
+    pub fn of(name: Name, geometry: DrawableGeometry<'a>) -> Result<Mesh<'a>, Missing> {
         let missing = |why: String| Missing { name, why };
         let Some(vertices) = geometry.vertex_buffer.filter(|vertices| vertices.vertex_count > 0) else {
             return Err(missing("no vertices".to_string()));
@@ -90,6 +107,6 @@ pub fn each<'a, E>(
     progress::of(what, total, |progress| geometries(list).try_for_each(|(name, geometry)| work(Mesh::of(name, geometry), progress)))
 }
 
-pub fn geometries(list: &[u8]) -> impl Iterator<Item = (Name, DrawableGeometry<'_>)> {
+pub fn geometries(list: &[u8]) -> impl Iterator<Item = (Name, DrawableGeometry<'_>)> + Clone {
     Models::of(list).geometries().map(|(model, geometry, found)| (Name { model, geometry }, found))
 }
