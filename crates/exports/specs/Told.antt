@@ -10,8 +10,8 @@ use Rattle.vertices.specs.declared.runs.RunAnswer.the-variants.{Written, Needs}
 use Rattle.halls.specs.Outcome.{Outcome, refusal, written, after}
 use Rattle.halls.specs.declared.answer.Answer.{Answer}
 use Rattle.halls.specs.declared.answer.Answer.the-variants.{Accepted, Refused}
-use Rattle.halls.specs.declared.check.Verdict.{Verdict}
-use Rattle.halls.specs.declared.check.Verdict.the-variants.{Sound, Fails}
+use Rattle.halls.specs.declared.check.check.Verdict.{Verdict}
+use Rattle.halls.specs.declared.check.check.Verdict.the-variants.{Sound, Fails}
 
 abbrev pub numberOf : Outcome → ℕ
 numberOf (refusal check needed) = check

@@ -11,17 +11,17 @@ use Rattle.vertices.specs.Declaration.{declarationBytes}
 use Rattle.vertices.proofs.DeclarationLaws.{declaration-length}
 use Rattle.halls.specs.List.{each, modelBody, geometryBody, verticesBody, indicesBody, geometryRecord, declarationRecord, verticesRecord, indicesRecord, writeGeometry, writeGeometries}
 use Rattle.halls.specs.Hall.{FullGeometry, FullModel, Hall, listedGeometry, listedModel, hallBytes}
-use Rattle.halls.specs.HallRecords.{ofKind, geometriesRecords, hallRecords}
+use Rattle.halls.specs.Inner.HallRecords.{ofKind, geometriesRecords, hallRecords}
 use Rattle.halls.specs.Parsing.{recordsLength}
 use Rattle.halls.specs.Records.{Record, records}
-use Rattle.halls.specs.Seeking.{placeOf, sought}
+use Rattle.halls.specs.Inner.Seeking.{placeOf, sought}
 use Rattle.halls.specs.Places.{item, modelPlace, geometryPlace, foundModel, foundGeometry}
-use Rattle.halls.specs.declared.find.FoundModel.the-variants.{At as ModelAt, Absent as NoModel}
-use Rattle.halls.specs.declared.find.FoundGeometry.the-variants.{At as GeometryAt, Absent as NoGeometry}
-use Rattle.halls.proofs.BodyLaws.{model-body-length, geometry-body-length, vertices-body-length}
-use Rattle.halls.proofs.RecordBytes.{hall-length}
-use Rattle.halls.proofs.SeekLaws.{place-next, Stand, stand-front, stand-behind}
-use Rattle.halls.proofs.ViewLaws.{record-length}
+use Rattle.halls.specs.declared.check.find.FoundModel.the-variants.{At as ModelAt, Absent as NoModel}
+use Rattle.halls.specs.declared.check.find.FoundGeometry.the-variants.{At as GeometryAt, Absent as NoGeometry}
+use Rattle.halls.proofs.format.BodyLaws.{model-body-length, geometry-body-length, vertices-body-length}
+use Rattle.halls.proofs.format.RecordBytes.{hall-length}
+use Rattle.halls.proofs.check.SeekLaws.{place-next, Stand, stand-front, stand-behind}
+use Rattle.halls.proofs.read.ViewLaws.{record-length}
 
 -- ---- lengths
 

@@ -16,8 +16,8 @@ use Rattle.vertices.specs.declared.types.VertexComponent.{VertexComponent}
 use Rattle.halls.specs.Every.{every, Each}
 use Rattle.halls.specs.Hall.{FullGeometry, FullModel, Hall}
 use Rattle.halls.specs.Checks.{vertexBytesExact, sameNumbers, shaderIds, mappingMatches, countsWithinLimits, stridesAgree, hasSize, componentsInside, vertexCountsAgree, held, indexCountsAgree, indicesInRange, imageWithinLimit, require, everyGeometry, verdict}
-use Rattle.halls.specs.declared.check.Verdict.{Verdict}
-use Rattle.halls.specs.declared.check.Verdict.the-variants.{Sound}
+use Rattle.halls.specs.declared.check.check.Verdict.{Verdict}
+use Rattle.halls.specs.declared.check.check.Verdict.the-variants.{Sound}
 
 -- ---- the verdict, check by check
 

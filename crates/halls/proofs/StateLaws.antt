@@ -13,17 +13,17 @@ use Rattle.vertices.proofs.DeclarationLaws.{declaration-length}
 use Rattle.halls.specs.List.{Vertices, verticesBody}
 use Rattle.halls.specs.Every.{sumOf, Each}
 use Rattle.halls.specs.Hall.{FullGeometry, FullModel, Hall, FullGeometryInWidth, HallInWidth, hallBytes}
-use Rattle.halls.specs.HallRecords.{geometriesRecords, hallRecords}
+use Rattle.halls.specs.Inner.HallRecords.{geometriesRecords, hallRecords}
 use Rattle.halls.specs.ImageSize.{geometrySize, modelSize, imageSize}
 use Rattle.halls.specs.Parsing.{recordsLength, modelsIn, parse}
 use Rattle.halls.specs.Records.{Record, records}
 use Rattle.halls.specs.Checks.{imageWithinLimit, judged, verdict, hallVerdict}
 use Rattle.halls.specs.State.{Geometry, State, vertexCount, fullGeometry, fullModel, hallOf, stateBytes, geometryLength, stateLength, geometryState, modelState, stateOf, GeometryInWidth, StateInWidth, IsState}
-use Rattle.halls.specs.declared.check.Verdict.the-variants.{Sound}
-use Rattle.halls.proofs.BodyLaws.{AllBytes, drop-below, model-body-length, geometry-body-length, vertices-body-length, vertices-read-back, indices-body-length}
+use Rattle.halls.specs.declared.check.check.Verdict.the-variants.{Sound}
+use Rattle.halls.proofs.format.BodyLaws.{AllBytes, drop-below, model-body-length, geometry-body-length, vertices-body-length, vertices-read-back, indices-body-length}
 use Rattle.halls.proofs.EveryLaws.{below-each}
-use Rattle.halls.proofs.ParsingLaws.{ReadHall, hall-parsed, parse-written}
-use Rattle.halls.proofs.RecordBytes.{Held, records-held, hall-length}
+use Rattle.halls.proofs.format.ParsingLaws.{ReadHall, hall-parsed, parse-written}
+use Rattle.halls.proofs.format.RecordBytes.{Held, records-held, hall-length}
 use Rattle.halls.proofs.SoundLaws.{SoundHall, SoundGeometry, SoundModel, required, verdict-sound, sound-models}
 
 -- ---- a hall and its state

@@ -11,8 +11,8 @@ use Rattle.halls.specs.Every.{every, sumOf}
 use Rattle.halls.specs.Hall.{FullGeometry, FullModel, Hall}
 use Rattle.halls.specs.ImageSize.{imageSize}
 use Rattle.halls.specs.Parsing.{parse}
-use Rattle.halls.specs.declared.check.Verdict.{Verdict}
-use Rattle.halls.specs.declared.check.Verdict.the-variants.{Sound, Fails}
+use Rattle.halls.specs.declared.check.check.Verdict.{Verdict}
+use Rattle.halls.specs.declared.check.check.Verdict.the-variants.{Sound, Fails}
 
 -- 11. Given vertex bytes = count × stride? (In a list that parses they are.)
 unfoldable pub vertexBytesExact : FullGeometry → Bool

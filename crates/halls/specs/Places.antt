@@ -10,13 +10,13 @@ use Rattle.halls.specs.Parsing.{modelsIn}
 use Rattle.halls.specs.Records.{records}
 use Rattle.halls.specs.Parsing.{parse}
 use Rattle.halls.specs.Checks.{hallVerdict}
-use Rattle.halls.specs.declared.check.Verdict.{Verdict}
-use Rattle.halls.specs.declared.check.Verdict.the-variants.{Sound, Fails}
-use Rattle.halls.specs.declared.find.GeometryPlace.{GeometryPlace}
-use Rattle.halls.specs.declared.find.FoundModel.{FoundModel}
-use Rattle.halls.specs.declared.find.FoundModel.the-variants.{At as ModelAt, Absent as NoModel}
-use Rattle.halls.specs.declared.find.FoundGeometry.{FoundGeometry}
-use Rattle.halls.specs.declared.find.FoundGeometry.the-variants.{At as GeometryAt, Absent as NoGeometry}
+use Rattle.halls.specs.declared.check.check.Verdict.{Verdict}
+use Rattle.halls.specs.declared.check.check.Verdict.the-variants.{Sound, Fails}
+use Rattle.halls.specs.declared.check.find.GeometryPlace.{GeometryPlace}
+use Rattle.halls.specs.declared.check.find.FoundModel.{FoundModel}
+use Rattle.halls.specs.declared.check.find.FoundModel.the-variants.{At as ModelAt, Absent as NoModel}
+use Rattle.halls.specs.declared.check.find.FoundGeometry.{FoundGeometry}
+use Rattle.halls.specs.declared.check.find.FoundGeometry.the-variants.{At as GeometryAt, Absent as NoGeometry}
 
 -- the item with this number, counted from 0
 abbrev pub firstOf : {A : Type 0} → List A → Option A

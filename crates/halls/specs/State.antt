@@ -8,7 +8,7 @@ use Rattle.vertices.specs.declared.declaration.VertexDeclaration.{VertexDeclara
 use Rattle.halls.specs.Checks.{verdict}
 use Rattle.halls.specs.Every.{sumOf, Each}
 use Rattle.halls.specs.Hall.{FullGeometry, FullModel, Hall, hallBytes}
-use Rattle.halls.specs.declared.check.Verdict.the-variants.{Sound}
+use Rattle.halls.specs.declared.check.check.Verdict.the-variants.{Sound}
 
 pub record Geometry : Type 0 where
   pub shader : ℕ

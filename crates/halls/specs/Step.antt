@@ -14,8 +14,8 @@ use Rattle.halls.specs.Records.{records}
 use Rattle.halls.specs.State.{State, hallOf, stateOf, stateBytes}
 use Rattle.halls.specs.declared.answer.Answer.{Answer}
 use Rattle.halls.specs.declared.answer.Answer.the-variants.{Accepted, Refused}
-use Rattle.halls.specs.declared.check.Verdict.{Verdict}
-use Rattle.halls.specs.declared.check.Verdict.the-variants.{Sound, Fails}
+use Rattle.halls.specs.declared.check.check.Verdict.{Verdict}
+use Rattle.halls.specs.declared.check.check.Verdict.the-variants.{Sound, Fails}
 
 -- a refused call leaves the state as it is, with the check's number and the needed bytes
 pub data Step : Type 0 where

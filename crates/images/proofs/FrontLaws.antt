@@ -7,8 +7,8 @@ use lib.ListN.{length, take, drop, length-take, length-drop}
 use Rattle.sections.specs.Edit.{part}
 use Rattle.sections.proofs.EditLaws.{part-length}
 use Rattle.halls.specs.ImageSize.{padded, geometrySize}
-use Rattle.halls.specs.Judging.{GeometryFront, contentAt, heldAt, frontGeometry}
-use Rattle.halls.specs.declared.judge.GeometryHead.{GeometryHead}
+use Rattle.halls.specs.Inner.Judging.{GeometryFront, contentAt, heldAt, frontGeometry}
+use Rattle.halls.specs.declared.check.geometry.GeometryHead.{GeometryHead}
 use Rattle.halls.proofs.JudgingLaws.{front-head}
 use Rattle.images.specs.Fronts.{geometryLength, imageLimit, Room, Shaped}
 use Rattle.images.specs.declared.fronts.GeometryShape.{GeometryShape}

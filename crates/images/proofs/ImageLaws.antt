@@ -22,7 +22,7 @@ use Rattle.halls.specs.ImageSize.{padded, modelSize, imageSize}
 use Rattle.halls.specs.List as list
 use Rattle.halls.specs.Reading.{read, need, listAt, readModels, readHeader, readList}
 use Rattle.halls.specs.State.{State, StateInWidth, hallOf, stateOf}
-use Rattle.halls.specs.declared.check.Verdict.the-variants.{Sound}
+use Rattle.halls.specs.declared.check.check.Verdict.the-variants.{Sound}
 use Rattle.halls.proofs.ReadingLaws.{read-injective}
 use Rattle.halls.proofs.SoundLaws.{SoundHall, verdict-sound, SoundGeometry, SoundModel, sound-models}
 use Rattle.halls.proofs.StateLaws.{sound-in-width, state-of-hall}

@@ -31,7 +31,7 @@ use Rattle.halls.specs.Hall.{FullGeometry, FullModel, Hall}
 use Rattle.halls.specs.List.{Vertices, Indices, Geometry, Model}
 use Rattle.halls.specs.Reading.{Reading, read, need, listAt, indicesAt, sizedIndices, indicesOf, declarationOf, storedIn, verticesOf, geometryWith, geometryOf, first, rest, mappingOf, readModels, readHeader, readList}
 use Rattle.halls.specs.State.{geometryState, modelState, stateOf, GeometryInWidth, ModelInWidth, StateInWidth}
-use Rattle.halls.specs.View.{geometryIn, geometriesAt, modelOf, modelIn, modelsAt}
+use Rattle.halls.specs.Inner.View.{geometryIn, geometriesAt, modelOf, modelIn, modelsAt}
 use Rattle.halls.proofs.BodyLaws.{AllBytes, numbers-below}
 use Rattle.halls.proofs.EveryLaws.{below-each}
 use Rattle.halls.proofs.ReadingLaws.{read-injective, not-read, need-read, then-read}

@@ -19,8 +19,8 @@ use Rattle.halls.specs.Reading.{Reading, refused, read}
 use Rattle.halls.specs.Records.{records}
 use Rattle.halls.specs.State.{State, hallOf, stateBytes, stateOf, StateInWidth, IsState}
 use Rattle.halls.specs.Step.{Step, stays, becomes, ifSound, settled, step, stepIn, stepAnswer, stepBytes, Stepped}
-use Rattle.halls.specs.declared.check.Verdict.{Verdict}
-use Rattle.halls.specs.declared.check.Verdict.the-variants.{Sound, Fails}
+use Rattle.halls.specs.declared.check.check.Verdict.{Verdict}
+use Rattle.halls.specs.declared.check.check.Verdict.the-variants.{Sound, Fails}
 use Rattle.halls.proofs.ParsingLaws.{hall-read}
 use Rattle.halls.proofs.RecordBytes.{hall-records}
 use Rattle.halls.proofs.StateLaws.{hall-of-state, state-of-hall, sound-in-width, state-sound}

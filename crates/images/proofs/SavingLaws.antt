@@ -14,7 +14,7 @@ use Rattle.halls.specs.Parsing.{modelsIn}
 use Rattle.halls.specs.Records.{records}
 use Rattle.halls.specs.declared.answer.Answer.{Answer}
 use Rattle.halls.specs.declared.answer.Answer.the-variants.{Accepted, Refused}
-use Rattle.halls.specs.declared.check.Verdict.the-variants.{Sound, Fails}
+use Rattle.halls.specs.declared.check.check.Verdict.the-variants.{Sound, Fails}
 use Rattle.images.specs.Fronts.{modelsFrom, modelsSize, modelsLength, modelLength, frontModel, imageLimit, hallOfList, modelCount, SoundList, SavedList}
 use Rattle.images.specs.Image.{headerBytes, pointerTo, filled, addresses, laid, modelImage, image}
 use Rattle.images.specs.Saving.{saved, Saved}

@@ -14,9 +14,9 @@ use Rattle.vertices.proofs.DeclarationLaws.{declaration-written-back}
 use Rattle.halls.specs.Blocks.{GeometryBlock, IndexBlock}
 use Rattle.halls.specs.Hall.{FullGeometry}
 use Rattle.halls.specs.ImageSize.{padded, geometrySize}
-use Rattle.halls.specs.Judging.{contentAt, heldAt, frontGeometry, headOf}
+use Rattle.halls.specs.Inner.Judging.{contentAt, heldAt, frontGeometry, headOf}
 use Rattle.halls.specs.Triangles.{heldCount}
-use Rattle.halls.specs.declared.judge.GeometryHead.{GeometryHead}
+use Rattle.halls.specs.declared.check.geometry.GeometryHead.{GeometryHead}
 use Rattle.halls.proofs.JudgingLaws.{front-head, numbers-part}
 use Rattle.halls.proofs.WalkLaws.{slice-rest}
 use Rattle.images.specs.Fronts.{geometryLength, Shaped, Room, geometryNumbers, vertexNumbers, indexNumbers, headParts}

@@ -10,12 +10,12 @@ use Rattle.halls.specs.Checks.{geometryCount}
 use Rattle.halls.specs.Every.{sumOf}
 use Rattle.halls.specs.Hall.{FullGeometry, FullModel, Hall}
 use Rattle.halls.specs.ImageSize.{geometrySize, modelSize, imageSize}
-use Rattle.halls.specs.Judging.{entriesAt, contentAt, heldAt, frontGeometry}
+use Rattle.halls.specs.Inner.Judging.{entriesAt, contentAt, heldAt, frontGeometry}
 use Rattle.halls.specs.Parsing.{modelIn, modelsIn}
 use Rattle.halls.specs.Records.{records}
 use Rattle.halls.specs.Outcome.{answerOf, after}
 use Rattle.halls.specs.declared.answer.Answer.{Answer}
-use Rattle.halls.specs.declared.check.Verdict.the-variants.{Sound}
+use Rattle.halls.specs.declared.check.check.Verdict.the-variants.{Sound}
 use Rattle.images.specs.Image.{VertexBlock, base, filled, geometryBlockBytes, pointerTo, vertexBlockBytes}
 use Rattle.images.specs.Saving.{savedBy}
 use Rattle.images.specs.declared.fronts.GeometryShape.{GeometryShape}

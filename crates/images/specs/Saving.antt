@@ -11,8 +11,8 @@ use Rattle.halls.specs.Outcome.{Outcome, refusal, written, answerOf, after}
 use Rattle.halls.specs.Parsing.{modelsIn}
 use Rattle.halls.specs.Records.{records}
 use Rattle.halls.specs.declared.answer.Answer.{Answer}
-use Rattle.halls.specs.declared.check.Verdict.{Verdict}
-use Rattle.halls.specs.declared.check.Verdict.the-variants.{Sound, Fails}
+use Rattle.halls.specs.declared.check.check.Verdict.{Verdict}
+use Rattle.halls.specs.declared.check.check.Verdict.the-variants.{Sound, Fails}
 use Rattle.images.specs.Image.{image}
 
 -- checks 11 to 19 on the hall, then 20 with the needed bytes

@@ -3,7 +3,7 @@ ghost use mathlib.Core.Path.{_≡_};
 ghost use Prim.Native.Nat.{_-_, _≤_, _^_};
 ghost use lib.ListN.{length};
 ghost use Rattle.halls.specs.ImageSize.{geometrySize, modelSize, imageSize};
-ghost use Rattle.halls.specs.Judging.{contentAt, entriesAt, frontGeometry};
+ghost use Rattle.halls.specs.Inner.Judging.{contentAt, entriesAt, frontGeometry};
 ghost use Rattle.images.specs.Fronts.{Shaped, geometryLength, geometriesLength, geometriesSize, frontModel, modelLength, imageLimit, hallOfList, modelCount, SoundList};
 use crate::parts::padded;
 use sections::u16_le;

@@ -5,7 +5,7 @@ ghost use lib.ListN.{length};
 ghost use Rattle.sections.specs.Edit.{overwrite};
 ghost use Rattle.vertices.specs.Runs.{run};
 ghost use Rattle.halls.specs.ImageSize as size;
-ghost use Rattle.halls.specs.Judging.{frontGeometry};
+ghost use Rattle.halls.specs.Inner.Judging.{frontGeometry};
 ghost use Rattle.images.specs.Fronts.{geometryLength, geometriesFrom, geometriesLength, geometriesSize, geometryNumbers, vertexNumbers, indexNumbers, headParts, imageLimit, Room, GeometriesRoom};
 ghost use Rattle.images.specs.Image.{addresses, filled, geometryBlockBytes, geometryImage, indexBlockBytes, laid, vertexBlockBytes};
 use crate::blocks::put_geometry_block;

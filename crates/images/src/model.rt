@@ -5,7 +5,7 @@ ghost use lib.ListN.{length};
 ghost use Rattle.sections.specs.Edit.{overwrite};
 ghost use Rattle.vertices.specs.Runs.{run};
 ghost use Rattle.halls.specs.ImageSize as size;
-ghost use Rattle.halls.specs.Judging.{entriesAt};
+ghost use Rattle.halls.specs.Inner.Judging.{entriesAt};
 ghost use Rattle.images.specs.Fronts.{frontModel, modelLength, modelNumbers, modelsFrom, modelsLength, modelsSize, imageLimit, Room, ModelsRoom};
 ghost use Rattle.images.specs.Image.{addresses, filled, modelBlockBytes, modelImage, laid};
 use crate::blocks::put_model_block;

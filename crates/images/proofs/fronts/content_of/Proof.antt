@@ -3,7 +3,7 @@ use Prim.Native.Nat.{_≤_}
 use native.Mathlib.Nat.{mul-le-mul}
 use native.Mathlib.Omega.{arith}
 use borrow.Author.Needs.{needs}
-use Rattle.halls.specs.Judging.{contentAt}
+use Rattle.halls.specs.Inner.Judging.{contentAt}
 use Rattle.images.proofs.fronts.content_of.Statement.{statement}
 use Rattle.images.proofs.fronts.content_of.Tie as tie
 

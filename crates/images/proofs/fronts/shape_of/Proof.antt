@@ -1,7 +1,7 @@
 -- The numbers are those of the definitions.
 use native.Mathlib.Omega.{arith}
 use borrow.Author.Needs.{needs}
-use Rattle.halls.specs.Judging.{heldAt}
+use Rattle.halls.specs.Inner.Judging.{heldAt}
 use Rattle.images.proofs.fronts.shape_of.Statement.{statement}
 use Rattle.images.proofs.fronts.shape_of.Tie as tie
 

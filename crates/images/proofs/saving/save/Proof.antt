@@ -4,7 +4,7 @@ use native.Mathlib.Omega.{arith}
 use borrow.Author.Needs.{needs}
 use lib.ListN.{length-take}
 use Rattle.halls.specs.Checks.{hallVerdict}
-use Rattle.halls.specs.declared.check.Verdict.the-variants.{Sound}
+use Rattle.halls.specs.declared.check.check.Verdict.the-variants.{Sound}
 use Rattle.halls.proofs.StepLaws.{Old, old}
 use Rattle.images.proofs.ListLaws.{sound-list}
 use Rattle.images.proofs.SavingLaws.{saved-fails, saved-sound}

@@ -1,0 +1,21 @@
+-- Laws about the calls that edit a hall: what each changes, and that the result passes its checks.
+pub mod StepLaws
+pub mod RewrittenLaws
+pub mod SoundEdits
+pub mod AddedModel
+pub mod RemovedLaws
+pub mod ChangedLaws
+pub mod AttributeSet
+pub mod RemovedGeometry
+pub mod IndicesWritten
+pub mod NewIndices
+pub mod AddedGeometry
+pub mod ReadEach
+pub mod ReadFew
+pub mod ShownLaws
+pub mod TakingItems
+pub mod TakingLaws
+pub mod FittingLaws
+pub mod TakenVerdict
+pub mod TakenBytes
+pub mod TakenLaws

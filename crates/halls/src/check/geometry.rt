@@ -1,0 +1,159 @@
+// Checks 14 to 18 of one geometry.
+ghost use mathlib.Core.Path.{_≡_};
+ghost use Rattle.vertices.specs.Declaration.{totalSize};
+ghost use Rattle.halls.specs.Checks.{stridesAgree, vertexCountsAgree, indexCountsAgree};
+ghost use Rattle.halls.specs.Inner.Judging.{GeometryFront, HeadJudged, HeadTested, frontGeometry, headOf, insideStride, lowestOf};
+use crate::check::scan::indices_below;
+use sections::u8_le;
+use sections::u16_le;
+use sections::u32_le;
+use vertices::FoundComponent;
+use vertices::VertexComponentType;
+use vertices::VertexDeclaration;
+use vertices::read_declaration;
+
+// The numbers of a geometry's four records, and how many indices it holds.
+pub struct GeometryHead {
+    pub shader: u16,
+    pub index_count: u32,
+    pub triangle_count: u32,
+    pub vertex_count: u16,
+    pub stride: u16,
+    pub declaration: VertexDeclaration,
+    pub layout: u8,
+    pub vertices_stride: u16,
+    pub vertices_count: u32,
+    pub indices_count: u32,
+    pub held: usize,
+}
+
+// The lowest check that the geometry at the front fails, or 20.
+pub fn geometry_lowest(front: &[u8], content: usize, held: usize) -> u8
+    requires { ⌜ GeometryFront (now front) content held ⌝ }
+    ensures { λ r. ⌜ r ≡ lowestOf (frontGeometry (now (front .entry))) ⌝ }
+{
+    let head = geometry_head(front, content, held);
+    let lowest = head_lowest(head);
+    if lowest != 20 {
+        return lowest;
+    }
+    if indices_below(front, 65 + content, held, head.vertices_count) {
+        return 20;
+    }
+    18
+}
+
+// `content` bytes of vertices and `held` indices are known to be whole.
+pub fn geometry_head(front: &[u8], content: usize, held: usize) -> GeometryHead
+    requires { ⌜ GeometryFront (now front) content held ⌝ }
+    ensures { λ r. ⌜ r ≡ headOf (frontGeometry (now (front .entry))) ⌝ }
+{
+    GeometryHead {
+        shader: u16_le(front, 6),
+        index_count: u32_le(front, 8),
+        triangle_count: u32_le(front, 12),
+        vertex_count: u16_le(front, 16),
+        stride: u16_le(front, 18),
+        declaration: read_declaration(front, 26),
+        layout: u8_le(front, 48),
+        vertices_stride: u16_le(front, 49),
+        vertices_count: u32_le(front, 51),
+        indices_count: u32_le(front, 61 + content),
+        held,
+    }
+}
+
+// The lowest of checks 14 to 17 that fails, or 20.
+pub fn head_lowest(head: GeometryHead) -> u8
+    ensures { λ r. ⌜ HeadJudged head r ⌝ }
+{
+    if !strides_agree(head) {
+        return 14;
+    }
+    if !components_inside(head.declaration, head.stride) {
+        return 15;
+    }
+    if !vertex_counts_agree(head) {
+        return 16;
+    }
+    if !index_counts_agree(head) {
+        return 17;
+    }
+    20
+}
+
+fn strides_agree(head: GeometryHead) -> bool
+    ensures { λ r. ⌜ HeadTested stridesAgree head r ⌝ }
+{
+    if head.layout != 0 {
+        return false;
+    }
+    if head.declaration.stride != head.stride {
+        return false;
+    }
+    head.vertices_stride == head.stride
+}
+
+// Check 15: the position has a size, and all components together are no longer than the stride.
+pub fn components_inside(declaration: VertexDeclaration, stride: u16) -> bool
+    ensures { λ r. ⌜ r ≡ insideStride declaration stride ⌝ }
+{
+    match declaration.component(0) {
+        FoundComponent::Component(position) => {
+            if position.size == 0 {
+                return false;
+            }
+            total_size(declaration) <= stride as usize
+        }
+        FoundComponent::Missing => false,
+    }
+}
+
+fn vertex_counts_agree(head: GeometryHead) -> bool
+    ensures { λ r. ⌜ HeadTested vertexCountsAgree head r ⌝ }
+{
+    let count = head.vertices_count;
+    if head.vertex_count as u32 != count {
+        return false;
+    }
+    if count < 1 {
+        return false;
+    }
+    count <= 65535
+}
+
+fn index_counts_agree(head: GeometryHead) -> bool
+    ensures { λ r. ⌜ HeadTested indexCountsAgree head r ⌝ }
+{
+    let held = head.held;
+    if head.index_count as usize != held {
+        return false;
+    }
+    if head.indices_count as usize != held {
+        return false;
+    }
+    if held != 3 * head.triangle_count as usize {
+        return false;
+    }
+    3 <= held
+}
+
+// The bytes of all components of a declaration.
+fn total_size(declaration: VertexDeclaration) -> usize
+    ensures { λ r. ⌜ r ≡ totalSize declaration ⌝ }
+{
+    let mut index: u8 = 0;
+    let mut flags = declaration.flags;
+    let mut types = declaration.types;
+    let mut total: usize = 0;
+    while index < 16 {
+        if flags % 2 == 1 {
+            let component_type = VertexComponentType::from_nibble((types % 16) as u8);
+            total += component_type.size_in_bytes() as usize;
+        }
+        index += 1;
+        flags = flags / 2;
+        types = types / 16;
+    }
+    total
+}
