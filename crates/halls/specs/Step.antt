@@ -6,7 +6,7 @@ use Prim.Native.Nat.{ℕ, _-_, max}
 use lib.Dec.{leb}
 use lib.ListN.{length, take, drop, replicate}
 use Rattle.halls.specs.Calls.{Call, proposed}
-use Rattle.halls.specs.Checks.{hallVerdict, verdict}
+use Rattle.halls.specs.Checks.{hallVerdict, require, verdict}
 use Rattle.halls.specs.Hall.{Hall, hallBytes}
 use Rattle.halls.specs.Parsing.{modelsIn}
 use Rattle.halls.specs.Reading.{Reading, refused, read}
@@ -32,9 +32,13 @@ abbrev pub settled : ℕ → Reading Hall → Step
 settled room (refused check) = stays check 0
 settled room (read h) = ifSound (verdict h) (cond (leb (length (hallBytes h)) room) (becomes (stateOf h)) (stays 24 (length (hallBytes h))))
 
+-- checks 11 to 19 on the old hall; 11 asks too whether its n is within the buffer
+abbrev pub stateVerdict : ℕ → State → Verdict
+stateVerdict room s = require 11 (leb (length (stateBytes s)) room) (verdict (hallOf s))
+
 -- the state's step, in a buffer of `room` bytes
 unfoldable pub step : Call → ℕ → State → Step
-step c room s = ifSound (verdict (hallOf s)) (settled room (proposed c s))
+step c room s = ifSound (stateVerdict room s) (settled room (proposed c s))
 
 -- ---- on bytes
 

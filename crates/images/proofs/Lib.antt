@@ -9,6 +9,7 @@ pub mod CallWidths
 pub mod BufferLaws
 pub mod RunLaws
 pub mod EveryList
+pub mod Witness
 pub mod Vectors
 pub mod PartLaws
 pub mod WrittenBlock

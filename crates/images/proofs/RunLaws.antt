@@ -4,7 +4,7 @@ use mathlib.Core.Bool.{Bool, true, false, cond}
 use mathlib.Core.List.{List, [], _∷_}
 use Prim.Native.Nat.{ℕ, _≤_, max}
 use native.Mathlib.Omega.{arith}
-use borrow.Author.Tests.{leb-true}
+use borrow.Author.Tests.{le-leb, leb-true}
 use lib.Dec.{leb}
 use lib.ListN.{length, take, length-append, length-replicate, length-drop}
 use lib.Seq.{take-at}
@@ -86,7 +86,9 @@ module _ {first b : List ℕ} {n greatest : ℕ} {s : State} (h : Held first b n
 
   pub step-is : (c : Call) → step c (length first) s ≡ settled (length first) (proposed c s)
   unfolding step
-  step-is c = rw (h .sound)
+  step-is c =
+      let inside : length (stateBytes s) ≤ length first = omega (arith, h .reached, h .within, h .shows .long) in
+      rw (le-leb (length (stateBytes s)) (length first) inside, h .sound)
 
   -- and what it leaves
   held-step : (c : Call) → Fits c → (o : Step) → settled (length first) (proposed c s) ≡ o

@@ -34,6 +34,14 @@ bytesOf l = take (nOf l) (bufferOf l)
 abbrev pub imageOf : CallList → List ℕ
 imageOf l = image (hallOf (stateAfter (length (l .first)) [] (l .made)))
 
+-- An image that was saved: save accepted the hall that the list left, and these are the first bytes of the image buffer afterwards, as many as it answered.
+pub record SavedImage (l : CallList) (v : List ℕ) : Type 0 where
+  pub room : List ℕ
+  pub size : ℕ
+  pub left : List ℕ
+  pub saved : Saved (bufferOf l) (nOf l) room (Accepted size) left
+  pub bytes : v ≡ take size left
+
 -- Two halls are equal when their n and their n bytes are.
 pub record SameHall (l k : CallList) : Type 0 where
   pub long : nOf l ≡ nOf k
@@ -46,8 +54,8 @@ pub record Claim : Type 0 where
   pub saves : (l : CallList) (d : List ℕ) (r : Answer) (t : List ℕ) → Saved (bufferOf l) (nOf l) d r t → length (imageOf l) ≤ length d
       → (r ≡ Accepted (length (imageOf l))) × (t ≡ overwrite d 0 (imageOf l))
   -- Its image, taken in over any hall that such a list leaves in a buffer long enough, gives the same hall.
-  pub returns : (l k : CallList) → nOf l ≤ length (bufferOf k) → (r : Answer) (t : List ℕ)
-      → Stepped (takeIn (sections (imageOf l) []) base) (bufferOf k) (nOf k) r t → (r ≡ Accepted (nOf l)) × (take (nOf l) t ≡ bytesOf l)
+  pub returns : (l k : CallList) (v : List ℕ) → SavedImage l v → nOf l ≤ length (bufferOf k) → (r : Answer) (t : List ℕ)
+      → Stepped (takeIn (sections v []) base) (bufferOf k) (nOf k) r t → (r ≡ Accepted (nOf l)) × (take (nOf l) t ≡ bytesOf l)
   -- Two such lists save equal images exactly when their halls are equal.
-  pub equal-images : (l k : CallList) → imageOf l ≡ imageOf k → SameHall l k
-  pub equal-halls : (l k : CallList) → SameHall l k → imageOf l ≡ imageOf k
+  pub equal-images : (l k : CallList) (v w : List ℕ) → SavedImage l v → SavedImage k w → v ≡ w → SameHall l k
+  pub equal-halls : (l k : CallList) (v w : List ℕ) → SavedImage l v → SavedImage k w → SameHall l k → v ≡ w
