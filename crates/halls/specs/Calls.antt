@@ -87,7 +87,7 @@ givenGeometry x = record {
 abbrev pub withGiven : FullModel → Given → FullModel
 withGiven m x = record { binding = m .binding; mask = m .mask; mapping = m .mapping ++ (x .shader ∷ []); geometries = m .geometries ++ (givenGeometry x ∷ []) }
 
--- checks 22 and 23, then that component's bytes
+-- check 21 of the vertex, checks 22 and 23, then that component's bytes
 unfoldable pub attributeSet : ℕ → ℕ → Geometry → VertexAttributeValue → Reading Geometry
 attributeSet vertex semantic g value =
     test 21 (ltb vertex (vertexCount g))

@@ -1,4 +1,4 @@
-// Halls: the list of a drawable's models and geometries.
+// Halls: the list of a drawable's models and geometries, the check that makes it a hall, and the calls that edit one.
 mod answer;
 mod check;
 mod edit;

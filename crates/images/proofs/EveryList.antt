@@ -64,7 +64,9 @@ accepted-bytes false v d t size says wrote = let clash : _≡_ {A = ℕ} 0 1 = c
 saved-image : (l : CallList) (v : List ℕ) → SavedImage l v → v ≡ imageOf l
 saved-image l v x =
     let is = saved-where l (length (x .room)) in
-    x .bytes ∙ accepted-bytes _ (imageOf l) (x .room) (x .left) (x .size) (x .saved .answer ∙ ap answerOf is) (x .saved .bytes ∙ ap (λ (o : Outcome). after o (x .room)) is)
+    let says : Accepted (x .size) ≡ answerOf (savedWhere _ (imageOf l)) = x .saved .answer ∙ ap answerOf is in
+    let wrote : x .left ≡ after (savedWhere _ (imageOf l)) (x .room) = x .saved .bytes ∙ ap (λ (o : Outcome). after o (x .room)) is in
+    x .bytes ∙ accepted-bytes _ (imageOf l) (x .room) (x .left) (x .size) says wrote
 
 -- ---- taken in over the hall of another list
 
@@ -77,8 +79,13 @@ step-becomes l k fit =
     let room : length (hallBytes (hallOf s)) ≤ length (bufferOf k) = rw (h .shows .long) at fit in
     step-in j _ ∙ rw (image-taken s (h .in-width) (h .sound), h .sound, ← held-length j, le-leb (length (hallBytes (hallOf s))) (length (bufferOf k)) room, state-of-hall s)
 
-returns : (l k : CallList) → nOf l ≤ length (bufferOf k) → (r : Answer) (t : List ℕ)
-    → Stepped (takeIn (sections (imageOf l) []) base) (bufferOf k) (nOf k) r t → (r ≡ Accepted (nOf l)) × (take (nOf l) t ≡ bytesOf l)
+-- these bytes, taken in over the hall of k, give the hall of l
+abbrev GivesBack : CallList → CallList → List ℕ → Type 0
+GivesBack l k v =
+    nOf l ≤ length (bufferOf k) → (r : Answer) (t : List ℕ) → Stepped (takeIn (sections v []) base) (bufferOf k) (nOf k) r t
+    → (r ≡ Accepted (nOf l)) × (take (nOf l) t ≡ bytesOf l)
+
+returns : (l k : CallList) → GivesBack l k (imageOf l)
 unfolding rewritten
 returns l k fit r t w =
     let s : State = stateOfList l in
@@ -112,7 +119,7 @@ pub every-list : Claim
 every-list = record {
   agrees = λ l. run-agrees (held-start (l .first)) (l .made) (l .ran);
   saves = saves;
-  returns = λ l k v x. subst (λ (i : List ℕ). nOf l ≤ length (bufferOf k) → (r : Answer) (t : List ℕ) → Stepped (takeIn (sections i []) base) (bufferOf k) (nOf k) r t → (r ≡ Accepted (nOf l)) × (take (nOf l) t ≡ bytesOf l)) (sym (saved-image l v x)) (returns l k);
+  returns = λ l k v x. subst (GivesBack l k) (sym (saved-image l v x)) (returns l k);
   equal-images = λ l k v w x y e. same-halls l k (sym (saved-image l v x) ∙ e ∙ saved-image k w y);
   equal-halls = λ l k v w x y same. saved-image l v x ∙ same-images l k same ∙ sym (saved-image k w y);
 }

@@ -1,4 +1,4 @@
--- models-before geometry taken out of a hall: where its records and its mapping entry stand, and what the call comes to.
+-- A geometry taken out of a hall: where its records and its mapping entry stand, and what the call comes to.
 use mathlib.Core.Path.{_≡_, refl, sym, ap, _∙_, subst}
 use mathlib.Core.Bool.{Bool, _&&_}
 use mathlib.Core.List.{List, _∷_, _++_, map, map-append, append-assoc}

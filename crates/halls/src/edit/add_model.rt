@@ -1,4 +1,4 @@
-// Models and geometries added at the end of a hall.
+// The call add model: a model without geometries, at the end of a hall.
 ghost use mathlib.Core.Path.{_≡_};
 ghost use Prim.Native.Nat.{_≤_};
 ghost use lib.ListN.{length, take};
