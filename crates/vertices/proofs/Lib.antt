@@ -31,3 +31,4 @@ pub mod EncodeLaws
 pub mod UnifiedBytes
 pub mod UnifiedChecks
 pub mod UnifiedLaws
+pub mod LocatedLaws

@@ -1,4 +1,4 @@
--- Laws of unified vertices: the plan gives the same vertices, its components are inside where check 9 passes, and when a buffer unifies.
+-- Laws of unified vertices: the plan gives the same vertices, its components are inside where check 9 passes, and when whole vertices unify.
 use mathlib.Core.Path.{_≡_, refl, sym, ap, _∙_}
 use mathlib.Core.Bool.{Bool, true, false, cond}
 use mathlib.Core.List.{List}
@@ -133,14 +133,14 @@ module _ {d : VertexDeclaration} {s : List ℕ} {stride count : ℕ} {out : List
       let ok = le-leb (0 + 84 * count) (length out) (omega arith) in
       record { answer = rw (e, ok); bytes = rw (e, ok) f }
 
--- ---- which buffers unify
+-- ---- what unifies (of a located buffer: `LocatedLaws`)
 
 -- each component that has a size ends within the stride
 abbrev pub InsideStride : VertexDeclaration → ℕ → Type 0
 InsideStride d stride =
     (i : ℕ) → i < length (componentsOf d) → 0 < (item (componentsOf d) i) .size → (item (componentsOf d) i) .offset + (item (componentsOf d) i) .size ≤ stride
 
--- Of a buffer as it is located, with room in out: it unifies to 84 × count bytes exactly when each component of nonzero size ends within the stride.
+-- Of count × stride bytes, with room in out: they unify to 84 × count bytes exactly when each component of nonzero size ends within the stride.
 pub record Exactly (d : VertexDeclaration) (s : List ℕ) (stride count : ℕ) (out : List ℕ) (r : UnifyAnswer) (t : List ℕ) : Type 0 where
   pub gives : InsideStride d stride → (r ≡ Written (84 * count)) × (t ≡ overwrite out 0 (unifiedRun d s stride count))
   pub only : stated r .0 ≡ 0 → InsideStride d stride
@@ -160,7 +160,7 @@ module _ (d : VertexDeclaration) (s : List ℕ) (stride count : ℕ) (whole : le
       let q : count * stride ≡ (count - 1) * stride + stride = ap (λ (m : ℕ). m * stride) n ∙ suc-mul (count - 1) stride in
       omega (arith, vertices-true d (length s) stride count e (count - 1) (omega arith) i l p)
 
-  -- a located buffer gives vertex_count vertices exactly when each component of nonzero size ends within the stride
+  -- they give count vertices exactly when each component of nonzero size ends within the stride
   pub unify-exactly : (out : List ℕ) → 84 * count ≤ length out → (r : UnifyAnswer) (t : List ℕ) → Unified d s stride count out r t → Exactly d s stride count out r t
   unify-exactly out room r t u =
       let ok = le-leb (0 + 84 * count) (length out) (omega arith) in
