@@ -3,6 +3,7 @@ pub mod ViewLaws
 pub mod EachLaws
 pub mod PointerLists
 pub mod ReadingLaws
+pub mod ReadBytes
 pub mod Measuring
 pub mod ListBytes
 pub mod ModelLaws

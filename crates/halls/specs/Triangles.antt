@@ -1,13 +1,17 @@
--- How many triangles a list has (the Rust's `triangle_count`): for each geometry its stored index count, or the indices that it holds where that is 0, in threes.
+-- How many triangles a list has (the Rust's `triangle_count`): for each geometry its stored index count, or the indices that it holds where that is 0,
+-- in threes.
+use mathlib.Core.Path.{_≡_}
 use mathlib.Core.Bool.{Bool, false, cond}
 use mathlib.Core.List.{List, [], _∷_}
 use mathlib.Core.Option.{Option, none, some}
-use Prim.{Unit}
 use Prim.Native.Nat.{ℕ, _+_, _-_, _/_, _^_, _<_}
 use lib.Dec.{eqb}
 use lib.ListN.{length}
+use Rattle.sections.specs.Address.{Sections}
 use Rattle.sections.specs.Le.{field}
+use Rattle.halls.specs.Every.{Each}
 use Rattle.halls.specs.List.{Indices, Geometry, Model, optional, modelRecord, verticesRecord, indicesRecord}
+use Rattle.halls.specs.Reading.{read, readList}
 use Rattle.halls.specs.Records.{Record}
 
 -- ---- of models
@@ -51,7 +55,7 @@ trianglesFrom awaited (r ∷ rs) = added awaited r + trianglesFrom (awaits await
 unfoldable pub trianglesIn : List Record → ℕ
 trianglesIn rs = trianglesFrom false rs
 
--- ---- lists whose bytes say as many as their models
+-- ---- lists whose bytes say as many as their models: the index counts and the records' lengths fit the fields that they are written to
 
 -- a record whose body's length fits the four bytes in front of it
 abbrev pub Short : List ℕ → Type 0
@@ -62,10 +66,17 @@ pub record FittingGeometry (g : Geometry) : Type 0 where
   pub vertices : Short (optional verticesRecord (g .vertices))
   pub indices : Short (optional indicesRecord (g .indices))
 
-unfoldable pub FittingGeometries : List Geometry → Type 0
-FittingGeometries [] = Unit {0}
-FittingGeometries (g ∷ gs) = FittingGeometry g × FittingGeometries gs
+pub record FittingModel (m : Model) : Type 0 where
+  pub short : Short (modelRecord m)
+  pub geometries : Each FittingGeometry (m .geometries)
 
-unfoldable pub Fitting : List Model → Type 0
-Fitting [] = Unit {0}
-Fitting (m ∷ ms) = Short (modelRecord m) × FittingGeometries (m .geometries) × Fitting ms
+abbrev pub Fitting : List Model → Type 0
+Fitting ms = Each FittingModel ms
+
+-- ---- of what is read
+
+-- c is the Rust's sum over the models that are read behind an address (document 01: "`triangle_count`, `bone_index`, `is_skinned` are ported")
+pub record CountsRead (s : Sections) (address c : ℕ) : Type 0 where
+  pub models : List Model
+  pub are : readList s address ≡ read models
+  pub sum : c ≡ triangles models

@@ -1,19 +1,16 @@
 -- What is read from sections of bytes fits its widths, and so does the state of a hall that is taken in.
 use mathlib.Core.Path.{_≡_, subst}
-use mathlib.Core.Bool.{Bool, true, false, cond}
+use mathlib.Core.Bool.{Bool, true, false}
 use mathlib.Core.List.{List, [], _∷_, map}
-use mathlib.Core.Option.{Option, none, some, Option·map, Option·getD}
-use Prim.{Unit}
+use mathlib.Core.Option.{Option, none, some}
 use Prim.Native.Nat.{ℕ, _^_, _≤_, _<_}
 use native.Mathlib.Omega.{arith}
 use lib.Dec.{eqb, lit<}
-use Rattle.sections.specs.Address.{Sections, withinLimit, located, partOf, rangeOf, resolved}
-use Rattle.sections.specs.Edit.{part, fits}
+use Rattle.sections.specs.Address.{Sections, withinLimit, rangeOf, resolved}
 use Rattle.sections.specs.Le.{field}
 use Rattle.sections.specs.Lists.{headerOf, headerLength}
 use Rattle.sections.specs.declared.lookup.Located.{Located}
 use Rattle.sections.specs.declared.lookup.Located.the-variants.{System, Graphics, Nothing}
-use Rattle.sections.proofs.EditLaws.{part-below}
 use Rattle.sections.proofs.LeLaws.{field-bound}
 use Rattle.vertices.specs.Buffer.{declarationIn, storedDeclaration, vertexData, foundAt, legacyAt, plainAt, orElse, blockBuffer, inBlock, vertexBufferAt}
 use Rattle.vertices.specs.Declaration.{InWidth}
@@ -34,31 +31,16 @@ use Rattle.halls.specs.State.{geometryState, modelState, stateOf, GeometryInWid
 use Rattle.halls.specs.Inner.View.{geometryIn, geometriesAt, modelOf, modelIn, modelsAt}
 use Rattle.halls.proofs.BodyLaws.{AllBytes, numbers-below}
 use Rattle.halls.proofs.EveryLaws.{below-each}
+use Rattle.halls.proofs.ReadBytes.{IfThere, there-map, there-or, there-cond, range-below, resolved-below}
 use Rattle.halls.proofs.ReadingLaws.{read-injective, not-read, need-read, then-read}
 use Rattle.halls.proofs.SecondPass.{models-read}
 use Rattle.halls.proofs.SoundEdits.{each-to, each-join}
 
 -- ---- what may be there has a property
 
-abbrev IfThere : {A : Type 0} → (A → Type 0) → Option A → Type 0
-IfThere P none = Unit {0}
-IfThere P (some x) = P x
-
-there-map : {A B : Type 0} (P : A → Type 0) (Q : B → Type 0) (f : A → B) → ((x : A) → P x → Q (f x)) → (o : Option A) → IfThere P o → IfThere Q (Option·map f o)
-there-map P Q f h none w = tt
-there-map P Q f h (some x) w = h x w
-
 there-else : {A : Type 0} (P : A → Type 0) (x y : Option A) → IfThere P x → IfThere P y → IfThere P (orElse x y)
 there-else P none y v w = w
 there-else P (some a) y v w = v
-
-there-or : {A : Type 0} (P : A → Type 0) (o : Option A) (y : A) → IfThere P o → P y → P (Option·getD o y)
-there-or P none y v w = w
-there-or P (some x) y v w = v
-
-there-cond : {A : Type 0} (P : A → Type 0) (t : Bool) (x y : Option A) → IfThere P x → IfThere P y → IfThere P (cond t x y)
-there-cond P true x y v w = v
-there-cond P false x y v w = w
 
 -- ---- a list whose numbers fit
 
@@ -93,18 +75,8 @@ Ids l = Each (λ (i : ℕ). i < 2 ^ 16) l
 module _ (s : Sections) (system : AllBytes (s .system)) (graphics : AllBytes (s .graphics)) where
   -- ---- bytes
 
-  part-there : (l : List ℕ) → AllBytes l → (at n : ℕ) → IfThere AllBytes (partOf l at n)
-  unfolding partOf
-  part-there l f at n = there-cond AllBytes (fits l at n) (some (part l at n)) none (part-below l at n f) tt
-
-  range-bytes : (place : Located) (n : ℕ) → IfThere AllBytes (rangeOf s place n)
-  range-bytes (System at) n = part-there (s .system) system at n
-  range-bytes (Graphics at) n = part-there (s .graphics) graphics at n
-  range-bytes Nothing n = tt
-
   resolved-bytes : (address n : ℕ) → IfThere AllBytes (resolved s address n)
-  unfolding resolved
-  resolved-bytes address n = range-bytes (located s address n) n
+  resolved-bytes = resolved-below s system graphics
 
   list-fits : (width count pointer : ℕ) → IfThere (Each (λ (i : ℕ). i < 256 ^ width)) (listAt s width count pointer)
   unfolding listAt Each
@@ -170,7 +142,7 @@ module _ (s : Sections) (system : AllBytes (s .system)) (graphics : AllBytes (s 
   unfolding verticesOf
   vertices-fit b w = record {
     stride = w .stride;
-    content = below-each 256 _ (there-or AllBytes (rangeOf s (b .«data») _) [] (range-bytes (b .«data») _) (λ i. lit< tt));
+    content = below-each 256 _ (there-or AllBytes (rangeOf s (b .«data») _) [] (range-below s system graphics (b .«data») _) (λ i. lit< tt));
   }
 
   -- ---- geometries

@@ -1,7 +1,7 @@
 -- Demand 2's sentence about unifying, of a buffer as it is located: it has a vertex and all its bytes are there, which is what makes "exactly" true.
 use mathlib.Core.Path.{_≡_, refl, sym, ap, _∙_}
 use mathlib.Core.Bool.{Bool, true, false, cond, _&&_}
-use mathlib.Core.List.{List, [], _∷_, _++_, List·Memᴰ, List·Memᴰ·head, List·Memᴰ·tail, List·Memᴰ·not-nil, List·Memᴰ·cases-cons}
+use mathlib.Core.List.{List, [], _∷_, List·Memᴰ, List·Memᴰ·head, List·Memᴰ·tail, List·Memᴰ·not-nil, List·Memᴰ·cases-cons}
 use mathlib.Core.Logic.{⊎-elim}
 use mathlib.Core.Option.{some}
 use Prim.Native.Nat.{ℕ, zero, suc, _+_, _-_, _*_, _≤_, _<_}
@@ -90,7 +90,8 @@ module _ (out vs : List ℕ) (n : ℕ) (long : length vs ≡ n) (room : n ≤ le
 
 -- where all vertices of a buffer were written
 written-vertices : (s : Sections) (b : VertexBuffer) (out : List ℕ) (r : UnifyAnswer) (t : List ℕ) → 84 * b .«vertex_count» ≤ length out
-    → r ≡ Written (84 * b .«vertex_count») → t ≡ overwrite out 0 (unifiedRun (readBy b) (dataOf s b) (b .«vertex_stride») (b .«vertex_count»)) → GivesVertices s b out r t
+    → r ≡ Written (84 * b .«vertex_count»)
+    → t ≡ overwrite out 0 (unifiedRun (readBy b) (dataOf s b) (b .«vertex_stride») (b .«vertex_count»)) → GivesVertices s b out r t
 unfolding unifiedRun
 written-vertices s b out r t room answer bytes =
     let n : ℕ = b .«vertex_count» in

@@ -8,7 +8,7 @@ use lib.ListN.{length, length-append}
 use Rattle.sections.specs.Address.{Sections, rangeOf, resolved}
 use Rattle.vertices.specs.declared.buffer.FoundBuffer.{FoundBuffer}
 use Rattle.vertices.specs.declared.buffer.FoundBuffer.the-variants.{Buffer, NotFound}
-use Rattle.halls.specs.Blocks.{GeometryBlock}
+use Rattle.halls.specs.Blocks.{GeometryBlock, geometryBlock}
 use Rattle.halls.specs.Every.{Each}
 use Rattle.halls.specs.List.{Geometry, Model}
 use Rattle.halls.specs.Inner.Measure.{geometriesIn}
@@ -26,9 +26,9 @@ use Rattle.halls.proofs.read.ViewRecords.{Small, ViewHeld, view-held}
 
 -- ---- geometries
 
-record SmallGeometry (g : Geometry) : Type 0 where
-  content : contentIn (g .vertices) < 2 ^ 31
-  held : heldIn (g .indices) < 2 ^ 29
+pub record SmallGeometry (g : Geometry) : Type 0 where
+  pub content : contentIn (g .vertices) < 2 ^ 31
+  pub held : heldIn (g .indices) < 2 ^ 29
 
 content-small : (s : Sections) (f : FoundBuffer) → BufferHeld s f → contentIn (Option·map (verticesOf s) (bufferIn f)) < 2 ^ 31
 content-small s NotFound h = omega arith
@@ -44,7 +44,7 @@ shown-small : (s : Sections) (v : GeometryView) → ViewHeld s v → SmallGeomet
 unfolding geometryShown
 shown-small s v h = record { content = content-small s (v .buffer) (h .buffer); held = held-small s (v .indices) (h .indices) }
 
-read-small : (s : Sections) → Small s → (shader : ℕ) (b : GeometryBlock) → SmallGeometry (geometryOf s shader b)
+pub read-small : (s : Sections) → Small s → (shader : ℕ) (b : GeometryBlock) → SmallGeometry (geometryOf s shader b)
 read-small s m shader b = subst SmallGeometry (shown-is s shader b) (shown-small s (geometryView s shader b) (view-held s m shader b))
 
 -- ---- their sums
@@ -94,7 +94,7 @@ models-few s (p ∷ ps) = rw length-append (omega (arith, in-few s (resolved s p
 
 pub models-fit : (s : Sections) → Small s → (ps : List ℕ) → length ps < 2 ^ 20 → geometriesIn (modelsAt s ps) ≤ 16384 → Fitting (allTaken modelTaken (modelsAt s ps))
 models-fit s m ps short few =
-    let l = models-light (modelsAt s ps) (models-each s SmallGeometry (read-small s m) ps) in
+    let l = models-light (modelsAt s ps) (models-each s SmallGeometry (λ shader pointer b e. read-small s m shader (geometryBlock b)) ps) in
     let n = models-few s ps in
     record {
       models = omega (arith, l .models-are);

@@ -12,7 +12,7 @@ use Rattle.sections.specs.Address.{Sections}
 use Rattle.vertices.specs.Buffer.{vertexBufferAt}
 use Rattle.vertices.specs.declared.buffer.VertexBuffer.{VertexBuffer}
 use Rattle.vertices.proofs.BufferLaws.{FoundData, buffer-data}
-use Rattle.halls.specs.Blocks.{GeometryBlock}
+use Rattle.halls.specs.Blocks.{GeometryBlock, geometryBlock}
 use Rattle.halls.specs.Calls.{both, allOf, takenModel}
 use Rattle.halls.specs.Checks.{vertexBytesExact, shaderIds, mappingMatches, geometryCount, everyGeometry, verdict}
 use Rattle.halls.specs.Every.{every, sumOf, Each}
@@ -59,7 +59,7 @@ geometry-exact s shader b =
     buffer-exact s (vertexBufferAt s (b .vertexBlock) (b .inline) (b .vertices) (b .stride)) (buffer-data s (b .vertexBlock) (b .inline) (b .vertices) (b .stride))
 
 models-exact : (s : Sections) (ps : List ℕ) → Each ExactModel (modelsAt s ps)
-models-exact s ps = models-each s ExactGeometry (geometry-exact s) ps
+models-exact s ps = models-each s ExactGeometry (λ shader pointer b e. geometry-exact s shader (geometryBlock b)) ps
 
 -- ---- one geometry
 

@@ -16,9 +16,10 @@ use Rattle.vertices.specs.Declaration.{declarationBytes}
 use Rattle.vertices.specs.Runs.{run}
 use Rattle.vertices.specs.declared.declaration.VertexDeclaration.{VertexDeclaration}
 use Rattle.vertices.proofs.RunLaws.{length-run}
+use Rattle.halls.specs.Every.{Each}
 use Rattle.halls.specs.List.{Vertices, Indices, Geometry, Model, each, recordBytes, optional, modelRecord, geometryRecord, declarationRecord, verticesRecord, indicesRecord, writeGeometry, writeGeometries, writeModel, write}
 use Rattle.halls.specs.Records.{Record, bodyLength, frontRecord, records}
-use Rattle.halls.specs.Triangles.{heldBy, trianglesOf, trianglesOfAll, triangles, storedCount, heldCount, added, awaits, trianglesFrom, trianglesIn, Short, FittingGeometry, FittingGeometries, Fitting}
+use Rattle.halls.specs.Triangles.{heldBy, trianglesOf, trianglesOfAll, triangles, storedCount, heldCount, added, awaits, trianglesFrom, trianglesIn, Short, FittingGeometry, Fitting}
 use Rattle.halls.proofs.format.RecordLaws.{field-drop, length-at, field-behind, records-stop, records-step, records-written}
 use Rattle.halls.proofs.read.ViewLaws.{record-length, declaration-record-length}
 
@@ -173,8 +174,8 @@ geometry-counted g fit rest n f b =
     ap (λ (s : List ℕ). trianglesFrom b (records s)) join ∙ head
     ∙ rw (added-geometry b 2 body refl, awaits-geometry b 2 body refl, stored, tail) (omega (arith, stored-or-held (g .indexCount) (heldBy (g .indices))))
 
-geometries-counted : (gs : List Geometry) → FittingGeometries gs → (rest : List ℕ) (n : ℕ) → Counts rest n → Counts (writeGeometries gs ++ rest) (trianglesOfAll gs + n)
-unfolding each trianglesOfAll FittingGeometries
+geometries-counted : (gs : List Geometry) → Each FittingGeometry gs → (rest : List ℕ) (n : ℕ) → Counts rest n → Counts (writeGeometries gs ++ rest) (trianglesOfAll gs + n)
+unfolding each trianglesOfAll Each
 geometries-counted [] fit rest n f b = f b ∙ omega arith
 geometries-counted (g ∷ gs) fit rest n f b =
     ap (λ (s : List ℕ). trianglesFrom b (records s)) (append-assoc (writeGeometry g) (writeGeometries gs) rest)
@@ -182,13 +183,13 @@ geometries-counted (g ∷ gs) fit rest n f b =
     ∙ omega arith
 
 models-counted : (ms : List Model) → Fitting ms → Counts (write ms) (triangles ms)
-unfolding each writeModel modelRecord triangles trianglesFrom Fitting
+unfolding each writeModel modelRecord triangles trianglesFrom Each
 models-counted [] fit b = rw (records-stop [] (omega arith))
 models-counted (m ∷ ms) fit b =
     let behind : List ℕ = writeGeometries (m .geometries) ++ write ms in
     ap (λ (s : List ℕ). trianglesFrom b (records s)) (append-assoc (modelRecord m) (writeGeometries (m .geometries)) (write ms))
-    ∙ passed 1 (bytes 4 (m .binding) ++ (bytes 2 (m .mask) ++ run 2 (m .mapping))) (fit .0) (omega arith) behind b (λ e. omega arith) (λ e. omega arith)
-    ∙ geometries-counted (m .geometries) (fit .1) (write ms) (triangles ms) (models-counted ms (fit .2)) b
+    ∙ passed 1 (bytes 4 (m .binding) ++ (bytes 2 (m .mask) ++ run 2 (m .mapping))) (fit .0 .short) (omega arith) behind b (λ e. omega arith) (λ e. omega arith)
+    ∙ geometries-counted (m .geometries) (fit .0 .geometries) (write ms) (triangles ms) (models-counted ms (fit .1)) b
 
 -- the bytes of a list say as many triangles as its models
 pub triangles-written : (ms : List Model) → Fitting ms → trianglesIn (records (write ms)) ≡ triangles ms
