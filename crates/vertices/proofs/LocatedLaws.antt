@@ -3,7 +3,6 @@ use mathlib.Core.Path.{_≡_, refl, sym, ap, _∙_}
 use mathlib.Core.Bool.{Bool, true, false, cond, _&&_}
 use mathlib.Core.List.{List, [], _∷_, List·Memᴰ, List·Memᴰ·head, List·Memᴰ·tail, List·Memᴰ·not-nil, List·Memᴰ·cases-cons}
 use mathlib.Core.Logic.{⊎-elim}
-use mathlib.Core.Option.{some}
 use Prim.Native.Nat.{ℕ, zero, suc, _+_, _-_, _*_, _≤_, _<_}
 use native.Mathlib.Nat.{eq-zero-or-pos, mul-comm}
 use native.Mathlib.Omega.{arith}
@@ -13,10 +12,9 @@ use lib.Seq.{take-all, take-append-le, drop-append-le, drop-at}
 use Rattle.sections.specs.Address.{Sections}
 use Rattle.sections.specs.Edit.{part, overwrite}
 use Rattle.sections.proofs.EditLaws.{part-part, part-same, overwrite-length}
-use Rattle.vertices.specs.Buffer.{vertexBufferAt}
 use Rattle.vertices.specs.Declaration.{componentsOf}
-use Rattle.vertices.specs.Located.{readBy, dataOf, ComponentsEndWithin, Unifies, GivesVertices, UnifiesExactly}
-use Rattle.vertices.specs.Unified.{unifiedVertex, unifiedBytes, runOf, unifiedRun, verticesInside, stated, Unified}
+use Rattle.vertices.specs.Located.{readBy, dataOf, ComponentsEndWithin, Unifies, GivesVertices, LocatedUnifies}
+use Rattle.vertices.specs.Unified.{unifiedVertex, unifiedBytes, runOf, unifiedRun, verticesInside, stated}
 use Rattle.vertices.specs.declared.buffer.VertexBuffer.{VertexBuffer}
 use Rattle.vertices.specs.declared.declaration.VertexDeclaration.{VertexDeclaration}
 use Rattle.vertices.specs.declared.types.VertexComponent.{VertexComponent}
@@ -115,10 +113,8 @@ refused-outside false room n OutsideData vs out t long e f h = (refl, f)
 refused-outside false room n (NeedsBytes m) vs out t long e f h = absurd (omega (arith, ap (λ (x : ℕ × ℕ). x .0) e))
 
 -- Demand 2: "Into an output long enough, a located buffer unifies exactly when each component of nonzero size ends within the stride, and gives vertex_count
--- vertices." Of every answer r and output t that `unified_vertices` may leave by its contract.
-pub located-unifies : (s : Sections) (va pointer count stride : ℕ) (b : VertexBuffer) → vertexBufferAt s va pointer count stride ≡ some b
-    → (out : List ℕ) → 84 * b .«vertex_count» ≤ length out
-    → (r : UnifyAnswer) (t : List ℕ) → Unified (readBy b) (dataOf s b) (b .«vertex_stride») (b .«vertex_count») out r t → UnifiesExactly s b out r t
+-- vertices."
+pub located-unifies : LocatedUnifies
 located-unifies s va pointer count stride b located out room r t u =
     let d : VertexDeclaration = readBy b in
     let found : FoundData s b = buffer-data s va pointer count stride b located in

@@ -3,14 +3,14 @@
 use mathlib.Core.Path.{_≡_}
 use mathlib.Core.List.{List, [], List·Memᴰ}
 use mathlib.Core.Logic.{_↔_}
-use mathlib.Core.Option.{Option·getD}
+use mathlib.Core.Option.{some, Option·getD}
 use Prim.Native.Nat.{ℕ, _+_, _*_, _≤_, _<_}
 use lib.ListN.{length, drop}
 use Rattle.sections.specs.Address.{Sections, rangeOf}
 use Rattle.sections.specs.Edit.{part}
-use Rattle.vertices.specs.Buffer.{orPositionOnly}
+use Rattle.vertices.specs.Buffer.{vertexBufferAt, orPositionOnly}
 use Rattle.vertices.specs.Declaration.{componentsOf}
-use Rattle.vertices.specs.Unified.{unifiedVertex, unifiedBytes, stated}
+use Rattle.vertices.specs.Unified.{unifiedVertex, unifiedBytes, stated, Unified}
 use Rattle.vertices.specs.declared.buffer.VertexBuffer.{VertexBuffer}
 use Rattle.vertices.specs.declared.declaration.VertexDeclaration.{VertexDeclaration}
 use Rattle.vertices.specs.declared.types.VertexComponent.{VertexComponent}
@@ -33,7 +33,7 @@ dataOf s b = Option·getD (rangeOf s (b .«data») (b .«vertex_count» * b .«v
 abbrev pub ComponentsEndWithin : VertexDeclaration → ℕ → Type 0
 ComponentsEndWithin d stride = (c : VertexComponent) → List·Memᴰ c (componentsOf d) → 0 < c .size → c .offset + c .size ≤ stride
 
--- it unifies: the answer has no number of document 01's
+-- it unifies: the answer is an acceptance, whose number is 0
 abbrev pub Unifies : UnifyAnswer → Type 0
 Unifies r = stated r .0 ≡ 0
 
@@ -44,8 +44,15 @@ pub record GivesVertices (s : Sections) (b : VertexBuffer) (out : List ℕ) (r :
   pub beyond : drop (84 * b .«vertex_count») t ≡ drop (84 * b .«vertex_count») out
   pub size : length t ≡ length out
 
--- the whole sentence, of the answer r and of t, the output afterwards; a buffer that does not unify is refused by check 9
+-- of an answer r and t, the output afterwards: "unifies exactly when .., and gives vertex_count vertices"; what does not unify is refused by check 9
 pub record UnifiesExactly (s : Sections) (b : VertexBuffer) (out : List ℕ) (r : UnifyAnswer) (t : List ℕ) : Type 0 where
   pub exactly : Unifies r ↔ ComponentsEndWithin (readBy b) (b .«vertex_stride»)
   pub gives : Unifies r → GivesVertices s b out r t
   pub otherwise : (Unifies r → ⊥) → (r ≡ OutsideData) × (t ≡ out)
+
+-- The whole sentence: of a buffer b that is located, an output long enough, and whatever answer r and bytes t `unified_vertices` ensures of them.
+abbrev pub LocatedUnifies : Type 0
+LocatedUnifies =
+    (s : Sections) (va pointer count stride : ℕ) (b : VertexBuffer) → vertexBufferAt s va pointer count stride ≡ some b
+    → (out : List ℕ) → 84 * b .«vertex_count» ≤ length out
+    → (r : UnifyAnswer) (t : List ℕ) → Unified (readBy b) (dataOf s b) (b .«vertex_stride») (b .«vertex_count») out r t → UnifiesExactly s b out r t
