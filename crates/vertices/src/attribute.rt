@@ -72,7 +72,7 @@ impl VertexAttributeValue {
             VertexAttributeValue::One(f) => Vec3::new(f, ZERO, ZERO),
             VertexAttributeValue::Two(v) => Vec3::new(v.x, v.y, ZERO),
             VertexAttributeValue::Three(v) => v,
-            VertexAttributeValue::Four(v) => Vec3::new(v.x, v.y, v.z),
+            VertexAttributeValue::Four(v) => v.xyz(),
             VertexAttributeValue::Bytes(b) => Vec3::new(unorm(b.a), unorm(b.b), unorm(b.c)),
             VertexAttributeValue::Unsupported => Vec3::new(ZERO, ZERO, ZERO),
         }
