@@ -64,7 +64,7 @@ module _ (k index flags types offset : ℕ) where
       k index flags types offset
 
   -- of at most 16 bytes each
-  pub small-from : sizes (componentsFrom k index flags types offset) ≤ 16 * k
+  small-from : sizes (componentsFrom k index flags types offset) ≤ 16 * k
   unfolding sizes
   small-from =
       by-flags (λ k i o cs. sizes cs ≤ 16 * k) (λ i o. omega arith) (λ k i o cs h. omega arith) (λ k i n o cs h. omega (arith, size-bound (componentType n)))

@@ -1,15 +1,16 @@
--- The walk over the flags: what the two loops over them keep.
+-- The walk over the flags: what the three loops over them keep.
 use mathlib.Core.Path.{_≡_, refl, sym, ap, _∙_}
 use mathlib.Core.List.{List, [], _∷_, _++_, append-nil}
 use mathlib.Core.Option.{none, some}
 use Prim.Native.Nat.{ℕ, suc, _+_, _*_, _-_, _/_, _%_, _≤_, _<_}
+use native.Mathlib.Nat.{add-assoc, add-zero}
 use native.Mathlib.Numerals.{add-one}
 use native.Mathlib.Omega.{arith}
 use borrow.Author.Tests.{eq-eqb, ne-eqb}
 use lib.ListN.{length, take, drop, set, replicate, length-set, take-append-drop}
 use lib.Seq.{append-snoc, drop-drop, drop-set-lt, length-take-le, take-suc-set}
 use Rattle.vertices.specs.Types.{componentType, sizeOf}
-use Rattle.vertices.specs.Declaration.{componentAt, componentsFrom, componentList, emptyComponent, withIndex}
+use Rattle.vertices.specs.Declaration.{componentAt, componentsFrom, componentList, emptyComponent, sizes, withIndex}
 use Rattle.vertices.specs.declared.types.VertexComponent.{VertexComponent}
 use Rattle.vertices.specs.declared.declaration.ComponentList.{ComponentList}
 use Rattle.vertices.proofs.TypeLaws.{size-bound}
@@ -90,6 +91,42 @@ module _ {wanted flags₀ types₀ index flags types offset : ℕ} (s : Searchin
   pub searching-end : 16 ≤ index → withIndex wanted (componentsFrom 16 0 flags₀ types₀ 0) ≡ none
   unfolding withIndex
   searching-end h = sym (s .same) ∙ rw (components-end index flags types offset h)
+
+-- ---- adding up the sizes
+
+-- the sum so far and the sizes from this place on are the total
+pub record Summing (flags₀ types₀ index flags types total : ℕ) : Type 0 where
+  pub same : total + sizes (componentsFrom (16 - index) index flags types total) ≡ sizes (componentsFrom 16 0 flags₀ types₀ 0)
+  pub bound : index ≤ 16
+  pub room : total ≤ 16 * index
+
+-- as the sum begins
+pub summing-start : (flags types : ℕ) → Summing flags types 0 flags types 0
+summing-start flags types = record { same = omega arith; bound = omega arith; room = omega arith }
+
+module _ {flags₀ types₀ index flags types total : ℕ} (s : Summing flags₀ types₀ index flags types total) where
+  -- a set flag: its type's size is added
+  pub summing-set : {next : ℕ} → index < 16 → flags % 2 ≡ 1 → next ≡ total + sizeOf (componentType (types % 16))
+      → Summing flags₀ types₀ (index + 1) (flags / 2) (types / 16) next
+  unfolding sizes
+  summing-set low e n = record {
+    same = rw (n, add-assoc) (rw (components-set index flags types total low e) at (s .same));
+    bound = omega arith;
+    room = omega (arith, size-bound (componentType (types % 16)), s .room);
+  }
+
+  -- a flag that is not set: nothing is
+  pub summing-clear : {next : ℕ} → index < 16 → (flags % 2 ≡ 1 → ⊥) → next ≡ total → Summing flags₀ types₀ (index + 1) (flags / 2) (types / 16) next
+  summing-clear low e n = record {
+    same = rw n (rw (components-clear index flags types total low e) at (s .same));
+    bound = omega arith;
+    room = omega (arith, s .room);
+  }
+
+  -- past the last flag: the sum is the total
+  pub summing-end : 16 ≤ index → total ≡ sizes (componentsFrom 16 0 flags₀ types₀ 0)
+  unfolding sizes
+  summing-end h = sym (add-zero total) ∙ rw (components-end index flags types total h) at (s .same)
 
 -- ---- filling an array
 

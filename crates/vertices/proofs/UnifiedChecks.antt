@@ -1,52 +1,22 @@
 -- Check 9: it is enough to test the last vertex, by the sum of the component sizes.
-use mathlib.Core.Path.{_≡_, refl, sym, ap, _∙_}
-use mathlib.Core.Bool.{Bool, true, false, cond}
+use mathlib.Core.Path.{_≡_, refl, sym, _∙_}
+use mathlib.Core.Bool.{Bool, true, false}
 use mathlib.Core.List.{List, [], _∷_}
 use mathlib.Core.Logic.{⊎-elim}
-use Prim.Native.Nat.{ℕ, zero, suc, _+_, _-_, _*_, _/_, _%_, _≤_, _<_}
+use Prim.Native.Nat.{ℕ, zero, suc, _+_, _-_, _*_, _≤_, _<_}
 use native.Mathlib.Nat.{eq-zero-or-pos, mul-le-mul, mul-le-mul-right}
 use native.Mathlib.Omega.{arith}
 use borrow.Author.Tests.{eq-eqb, ne-eqb, le-leb, leb-true}
 use lib.Dec.{eqb, leb}
 use lib.ListN.{length}
 use Rattle.sections.proofs.AddressLaws.{both-true}
-use Rattle.vertices.specs.Types.{componentType, sizeOf}
-use Rattle.vertices.specs.Declaration.{componentAt, componentsFrom, componentsOf, odd, sizes, totalSize}
+use Rattle.vertices.specs.Types.{sizeOf}
+use Rattle.vertices.specs.Declaration.{componentAt, componentsOf, totalSize}
 use Rattle.vertices.specs.Attribute.{componentInside, allInside}
 use Rattle.vertices.specs.Unified.{verticesInside}
 use Rattle.vertices.specs.declared.types.VertexComponent.{VertexComponent}
 use Rattle.vertices.specs.declared.declaration.VertexDeclaration.{VertexDeclaration}
 use Rattle.vertices.proofs.ComponentLaws.{by-flags, item, component-within, inside-total}
-
--- ---- the sum of the sizes
-
--- of a component in front, or of none
-sizes-front : (b : Bool) (c : VertexComponent) (xs ys : List VertexComponent) (rest : ℕ) → sizes xs ≡ rest → sizes ys ≡ rest → sizes (cond b (c ∷ xs) ys) ≡ cond b (c .size) 0 + rest
-unfolding sizes
-sizes-front true c xs ys rest p q = ap (λ (n : ℕ). c .size + n) p
-sizes-front false c xs ys rest p q = q ∙ omega arith
-
--- the same whatever the first flag's number and wherever the first component lies
-sizes-any : (k index flags types offset : ℕ) → sizes (componentsFrom k index flags types offset) ≡ sizes (componentsFrom k 0 flags types 0)
-unfolding componentsFrom
-sizes-any zero index flags types offset = refl
-sizes-any (suc k) index flags types offset =
-    let rest : (i o : ℕ) → sizes (componentsFrom k i (flags / 2) (types / 16) o) ≡ sizes (componentsFrom k 0 (flags / 2) (types / 16) 0) = λ i o. sizes-any k i (flags / 2) (types / 16) o in
-    sizes-front (odd flags) (componentAt index (types % 16) offset) _ _ _ (rest _ _) (rest _ _) ∙ sym (sizes-front (odd flags) (componentAt 0 (types % 16) 0) _ _ _ (rest _ _) (rest _ _))
-
--- of no flags
-pub sizes-none : (flags types : ℕ) → sizes (componentsFrom 0 0 flags types 0) ≡ 0
-unfolding componentsFrom sizes
-sizes-none flags types = refl
-
--- of k flags: the lowest one's, and those of the others
-pub sizes-next : (k flags types : ℕ) → 0 < k
-    → sizes (componentsFrom k 0 flags types 0) ≡ cond (odd flags) (sizeOf (componentType (types % 16))) 0 + sizes (componentsFrom (k - 1) 0 (flags / 2) (types / 16) 0)
-unfolding componentsFrom
-sizes-next k flags types h =
-    let n : k ≡ suc (k - 1) = omega arith in
-    ap (λ (m : ℕ). sizes (componentsFrom m 0 flags types 0)) n
-    ∙ sizes-front (odd flags) (componentAt 0 (types % 16) 0) _ _ _ (sizes-any (k - 1) _ (flags / 2) (types / 16) _) (sizes-any (k - 1) _ (flags / 2) (types / 16) _)
 
 -- ---- no sum wraps
 
@@ -147,12 +117,10 @@ module _ (d : VertexDeclaration) (n stride : ℕ) where
       by false e false f = refl
 
   -- as the code does it, with the sum and the last vertex's place worked out
-  pub last-compared : (count : ℕ) {total base : ℕ} → total ≡ sizes (componentsFrom 16 0 (d .flags) (d .types) 0) → base ≡ (count - 1) * stride → 0 < count → 0 < total
+  pub last-compared : (count : ℕ) {total base : ℕ} → total ≡ totalSize d → base ≡ (count - 1) * stride → 0 < count → 0 < total
       → leb (base + total) n ≡ verticesInside d n stride count
-  unfolding totalSize componentsOf
   last-compared count e f h p = rw (e, f) (sym (vertices-inside-is count h (rw e at p)))
 
   -- where the sum is 0 every vertex is inside
-  pub nothing-read : (count : ℕ) {total : ℕ} → total ≡ sizes (componentsFrom 16 0 (d .flags) (d .types) 0) → total ≡ 0 → true ≡ verticesInside d n stride count
-  unfolding totalSize componentsOf
+  pub nothing-read : (count : ℕ) {total : ℕ} → total ≡ totalSize d → total ≡ 0 → true ≡ verticesInside d n stride count
   nothing-read count e z = sym (vertices-sizeless count (sym e ∙ z))

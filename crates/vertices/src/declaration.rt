@@ -3,7 +3,7 @@ ghost use mathlib.Core.Path.{_≡_};
 ghost use Prim.Native.Nat.{_+_, _≤_};
 ghost use lib.ListN.{length};
 ghost use Rattle.sections.specs.Edit.{overwrite, fits, Edited};
-ghost use Rattle.vertices.specs.Declaration.{declarationAt, declarationBytes, positionOnly, componentAt, componentList, componentsOf, componentOf, foundComponent, idFrom, declarationId, emptyComponent};
+ghost use Rattle.vertices.specs.Declaration.{declarationAt, declarationBytes, positionOnly, componentAt, componentList, componentsOf, componentOf, foundComponent, idFrom, declarationId, emptyComponent, totalSize};
 use crate::types::VertexComponent;
 use crate::types::VertexComponentType;
 use crate::types::VertexSemantic;
@@ -139,6 +139,26 @@ impl VertexDeclaration {
             types = types / 16;
         }
         FoundComponent::Missing
+    }
+
+    // The bytes of all components.
+    pub fn size_in_bytes(self) -> u16
+        ensures { λ r. ⌜ r ≡ totalSize self ⌝ }
+    {
+        let mut index: u8 = 0;
+        let mut flags = self.flags;
+        let mut types = self.types;
+        let mut total: u16 = 0;
+        while index < 16 {
+            if flags % 2 == 1 {
+                let component_type = VertexComponentType::from_nibble((types % 16) as u8);
+                total += component_type.size_in_bytes() as u16;
+            }
+            index += 1;
+            flags = flags / 2;
+            types = types / 16;
+        }
+        total
     }
 }
 

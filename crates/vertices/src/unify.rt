@@ -4,7 +4,6 @@ ghost use mathlib.Core.List.{_++_};
 ghost use Prim.Native.Nat.{ℕ, _+_, _*_, _≤_, _<_};
 ghost use lib.ListN.{length};
 ghost use Rattle.sections.specs.Edit.{overwrite};
-ghost use Rattle.vertices.specs.Declaration.{componentsFrom, sizes};
 ghost use Rattle.vertices.specs.Attribute.{valueAt, asVec2, asVec3, asVec4, white, asRgba8};
 ghost use Rattle.vertices.specs.Unified.{holdsIndices, noIndices, asIndices, zeroVec2, verticesInside, vec2Bytes, vec3Bytes, vec4Bytes, bytes4Bytes, unifiedBytes, runOf, Unified};
 ghost use Rattle.vertices.specs.Plan.{planOf, planned, plannedVertex, Ends, Inside, Readable};
@@ -84,7 +83,7 @@ pub fn unified_vertices(
 fn vertices_inside(declaration: VertexDeclaration, n: usize, stride: u16, count: u32) -> bool
     ensures { λ r. ⌜ r ≡ verticesInside declaration n stride count ⌝ }
 {
-    let total = size_from(16, declaration.flags, declaration.types) as usize;
+    let total = declaration.size_in_bytes() as usize;
     if count == 0 {
         return true;
     }
@@ -92,20 +91,6 @@ fn vertices_inside(declaration: VertexDeclaration, n: usize, stride: u16, count:
         return true;
     }
     base_of((count - 1) as usize, stride) + total <= n
-}
-
-// The bytes of the components of the `left` lowest flags.
-fn size_from(left: u8, flags: u32, types: u64) -> u16
-    ensures { λ r. ⌜ r ≡ sizes (componentsFrom left 0 flags types 0) ⌝ }
-{
-    if left == 0 {
-        return 0;
-    }
-    let rest = size_from(left - 1, flags / 2, types / 16);
-    if flags % 2 == 1 {
-        return VertexComponentType::from_nibble((types % 16) as u8).size_in_bytes() as u16 + rest;
-    }
-    rest
 }
 
 // Where a vertex starts.

@@ -3,7 +3,7 @@ use mathlib.Core.Path.{_≡_, refl, sym, ap, _∙_}
 use mathlib.Core.Bool.{Bool, true, false, cond, _&&_}
 use mathlib.Core.List.{List}
 use mathlib.Core.Option.{Option, none, some}
-use Prim.Native.Nat.{ℕ, suc, _+_, _*_, _-_, _/_, _%_, _≤_, _<_}
+use Prim.Native.Nat.{ℕ, suc, _+_, _*_, _≤_, _<_}
 use native.Mathlib.Nat.{add-assoc, add-zero, mul-le-mul-right, suc-mul}
 use native.Mathlib.Omega.{arith}
 use borrow.Author.Tests.{eqb-true, le-ltb, lt-ltb}
@@ -15,14 +15,11 @@ use Rattle.sections.specs.Le.{field, le}
 use Rattle.sections.proofs.AddressLaws.{both-true}
 use Rattle.sections.proofs.EditLaws.{part-length, part-part}
 use Rattle.sections.proofs.LeLaws.{field-in}
-use Rattle.vertices.specs.Declaration.{componentsFrom, declarationAt, foundComponent, sizes}
+use Rattle.vertices.specs.Declaration.{declarationAt, foundComponent}
 use Rattle.vertices.specs.Runs.{numbers}
-use Rattle.vertices.specs.Types.{componentType, sizeOf}
 use Rattle.vertices.specs.declared.declaration.FoundComponent.the-variants.{Component, Missing}
 use Rattle.vertices.specs.declared.types.VertexComponent.{VertexComponent}
-use Rattle.vertices.proofs.ComponentWalk.{components-clear, components-end, components-set}
 use Rattle.vertices.proofs.RunLaws.{numbers-getD, numbers-length}
-use Rattle.vertices.proofs.TypeLaws.{size-bound}
 use Rattle.halls.specs.Checks.{stridesAgree, componentsInside, vertexCountsAgree, indexCountsAgree, indicesInRange, hasSize}
 use Rattle.halls.specs.Every.{every}
 use Rattle.halls.specs.Hall.{FullGeometry}
@@ -257,33 +254,3 @@ module _ (o : Option VertexComponent) (c : VertexComponent) (e : Component c ≡
 
   pub position-sized : (c .size ≡ 0 → ⊥) → hasSize o ≡ true
   position-sized f = position-found o c e ∙ lt-ltb 0 (c .size) (omega (arith, f))
-
--- ---- the sizes of the components passed
-
--- with those from this place on they are the total
-pub record Summing (flags₀ types₀ index flags types total : ℕ) : Type 0 where
-  pub same : total + sizes (componentsFrom (16 - index) index flags types total) ≡ sizes (componentsFrom 16 0 flags₀ types₀ 0)
-  pub bound : index ≤ 16
-  pub room : total ≤ 16 * index
-
-pub summing-start : (flags types : ℕ) → Summing flags types 0 flags types 0
-summing-start flags types = record { same = omega arith; bound = omega arith; room = omega arith }
-
-module _ {flags₀ types₀ index flags types total : ℕ} (s : Summing flags₀ types₀ index flags types total) where
-  -- a set flag
-  pub summing-set : {next : ℕ} → index < 16 → flags % 2 ≡ 1 → next ≡ total + sizeOf (componentType (types % 16)) → Summing flags₀ types₀ (index + 1) (flags / 2) (types / 16) next
-  unfolding sizes
-  summing-set low e n = record {
-    same = rw (n, add-assoc) (rw (components-set index flags types total low e) at (s .same));
-    bound = omega arith;
-    room = omega (arith, size-bound (componentType (types % 16)), s .room);
-  }
-
-  -- a flag that is not set
-  pub summing-clear : {next : ℕ} → index < 16 → (flags % 2 ≡ 1 → ⊥) → next ≡ total → Summing flags₀ types₀ (index + 1) (flags / 2) (types / 16) next
-  summing-clear low e n = record { same = rw n (rw (components-clear index flags types total low e) at (s .same)); bound = omega arith; room = omega (arith, s .room) }
-
-  -- past the last flag
-  pub summing-end : 16 ≤ index → total ≡ sizes (componentsFrom 16 0 flags₀ types₀ 0)
-  unfolding sizes
-  summing-end h = sym (add-zero total) ∙ rw (components-end index flags types total h) at (s .same)

@@ -1,6 +1,5 @@
 // Checks 14 to 18 of one geometry.
 ghost use mathlib.Core.Path.{_≡_};
-ghost use Rattle.vertices.specs.Declaration.{totalSize};
 ghost use Rattle.halls.specs.Checks.{stridesAgree, vertexCountsAgree, indexCountsAgree};
 ghost use Rattle.halls.specs.Inner.Judging.{GeometryFront, HeadJudged, HeadTested, frontGeometry, headOf, insideStride, lowestOf};
 use crate::check::scan::indices_below;
@@ -8,7 +7,6 @@ use sections::u8_le;
 use sections::u16_le;
 use sections::u32_le;
 use vertices::FoundComponent;
-use vertices::VertexComponentType;
 use vertices::VertexDeclaration;
 use vertices::read_declaration;
 
@@ -103,7 +101,7 @@ pub fn components_inside(declaration: VertexDeclaration, stride: u16) -> bool
             if position.size == 0 {
                 return false;
             }
-            total_size(declaration) <= stride as usize
+            declaration.size_in_bytes() <= stride
         }
         FoundComponent::Missing => false,
     }
@@ -136,24 +134,4 @@ fn index_counts_agree(head: GeometryHead) -> bool
         return false;
     }
     3 <= held
-}
-
-// The bytes of all components of a declaration.
-fn total_size(declaration: VertexDeclaration) -> usize
-    ensures { λ r. ⌜ r ≡ totalSize declaration ⌝ }
-{
-    let mut index: u8 = 0;
-    let mut flags = declaration.flags;
-    let mut types = declaration.types;
-    let mut total: usize = 0;
-    while index < 16 {
-        if flags % 2 == 1 {
-            let component_type = VertexComponentType::from_nibble((types % 16) as u8);
-            total += component_type.size_in_bytes() as usize;
-        }
-        index += 1;
-        flags = flags / 2;
-        types = types / 16;
-    }
-    total
 }

@@ -20,7 +20,7 @@ inside c =
     let sized = c .before in
     let found = sized .before .before .before in
     let e = sym (found .position .given .1) ∙ found .before .before .component .ensures in
-    rw (position-sized (componentOf _ 0) _ e (sized .if1 .left), ← c .total-size .ensures)
+    rw (position-sized (componentOf _ 0) _ e (sized .if1 .left), ← c .size-in-bytes .ensures)
 
 missing : tie.Need-returns-3
 unfolding insideStride

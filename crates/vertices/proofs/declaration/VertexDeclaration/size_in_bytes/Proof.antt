@@ -4,10 +4,10 @@ use mathlib.Core.Path.{_∙_}
 use Prim.Native.Nat.{_-_}
 use native.Mathlib.Omega.{arith}
 use borrow.Author.Needs.{needs}
 use Rattle.vertices.specs.Declaration.{componentsOf, totalSize}
-use Rattle.halls.proofs.check.JudgingLaws.{Summing, summing-start, summing-set, summing-clear, summing-end}
-use Rattle.halls.proofs.check.geometry.total_size.Statement.{statement}
-use Rattle.halls.proofs.check.geometry.total_size.Tie as tie
+use Rattle.vertices.proofs.ComponentWalk.{Summing, summing-clear, summing-end, summing-set, summing-start}
+use Rattle.vertices.proofs.declaration.VertexDeclaration.size_in_bytes.Statement.{statement}
+use Rattle.vertices.proofs.declaration.VertexDeclaration.size_in_bytes.Tie as tie
 
 abbrev Inv-loop : tie.InvT-loop
 Inv-loop index₀ flags₀ types₀ total₀ index flags types total = Summing flags₀ types₀ index flags types total
@@ -19,8 +19,8 @@ end : tie.Need-returns Inv-loop μ-loop
 unfolding totalSize componentsOf
 end c = summing-end (c .before .loop .inv) (c .loop-test .left)
 
-pub total-size-spec : {M : Type 1} → statement M
-total-size-spec =
+pub size-in-bytes-spec : {M : Type 1} → statement M
+size-in-bytes-spec =
     tie.close
     (tie.spec
     Inv-loop
