@@ -22,7 +22,7 @@ use Rattle.halls.specs.Every.{every, sumOf}
 use Rattle.halls.specs.Hall.{FullGeometry, FullModel, Hall, FullModelInWidth, listedGeometry, hallBytes}
 use Rattle.halls.specs.ImageSize.{geometrySize, modelSize, imageSize}
 use Rattle.halls.specs.Inner.Judging.{passed, lowestOf, insideStride, givenLowest}
-use Rattle.halls.specs.List.{each, recordBytes, indicesRecord, writeGeometry}
+use Rattle.halls.specs.List.{each, writeGeometry}
 use Rattle.halls.specs.Places.{item, modelPlace, foundModel}
 use Rattle.halls.specs.Reading.{read}
 use Rattle.halls.specs.State.{modelState, hallOf, stateOf}
@@ -431,14 +431,6 @@ pub units-grow : (e c h : ℕ) → 25 + (c + 15) / 16 + (h + 7) / 8 + ((e + 2) /
 units-grow e c h =
     rw (eight-units e, two-units e, next-eight e, next-two e, two-units h)
     (units-join ((c + 15) / 16) ((h + 7) / 8) ((e + 1) / 2) ((e + 2) / 2) ((e + 7) / 8) ((e + 8) / 8) (omega arith) (omega arith))
-
--- the last record, in the parts that are put
-pub lent-parts : (l : List ℕ) → ((bytes 4 (4 + 4 * length l) ++ bytes 2 5) ++ bytes 4 (length l)) ++ run 4 l ≡ indicesRecord (record { count = length l; items = l })
-unfolding indicesRecord recordBytes bytes
-lent-parts l =
-    let body : List ℕ = bytes 4 (length l) ++ run 4 l in
-    let q : 4 + 4 * length l ≡ length body = omega (arith, length-run 4 l) in
-    ap (λ n. bytes 4 n ++ (bytes 2 5 ++ body)) q
 
 -- four records, one behind the other
 pub four-put : (s : List ℕ) (at k : ℕ) (g d v i : List ℕ) {t t₂ t₃ u : List ℕ} → length g ≡ 20 → length d ≡ 22 → length v ≡ 13 + k → at + (55 + k + length i) ≤ length s

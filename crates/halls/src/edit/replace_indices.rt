@@ -3,11 +3,9 @@ ghost use mathlib.Core.Path.{_≡_};
 ghost use mathlib.Core.List.{_++_};
 ghost use Prim.Native.Nat.{_+_, _*_, _-_, _<_, _≤_, _^_};
 ghost use lib.ListN.{length, take, drop};
-ghost use Rattle.sections.specs.Edit.{overwrite};
 ghost use Rattle.halls.specs.Calls.{replaceIndices};
 ghost use Rattle.halls.specs.Checks.{hallVerdict};
-ghost use Rattle.halls.specs.List.{indicesRecord};
-ghost use Rattle.halls.specs.Inner.NewIndices.{indicesVerdict, indicesOf, withNewIndices};
+ghost use Rattle.halls.specs.Inner.NewIndices.{indicesVerdict, withNewIndices};
 ghost use Rattle.halls.specs.Parsing.{modelsIn};
 ghost use Rattle.halls.specs.Places.{GeometryIn};
 ghost use Rattle.halls.specs.Records.{records};
@@ -20,10 +18,9 @@ use crate::check::check::examine_first;
 use crate::check::find::FoundGeometry;
 use crate::check::find::geometry_at;
 use crate::check::pass::Summary;
-use crate::check::words::put_words;
 use crate::check::words::words_below;
 use crate::edit::remove::close_gap;
-use crate::format::record::put_head;
+use crate::format::record::put_lent_indices;
 use sections::copy_within;
 use sections::put_u32_le;
 use sections::u16_le;
@@ -129,7 +126,7 @@ fn rewrite(hall: &mut [u8], n: usize, at: usize, start: usize, held: usize, indi
 {
     let count = indices.len();
     move_tail(hall, n, start + 10 + 4 * held, start + 10 + 4 * count);
-    put_record(hall, start, indices);
+    put_lent_indices(hall, start, indices);
     put_u32_le(hall, at + 8, count as u32);
     put_u32_le(hall, at + 12, (count / 3) as u32);
 }
@@ -144,15 +141,4 @@ fn move_tail(hall: &mut [u8], n: usize, from: usize, to: usize)
         return;
     }
     copy_within(hall, from, to, n - from);
-}
-
-// Kind 5, of these indices.
-fn put_record(out: &mut [u8], at: usize, indices: &[u32])
-    requires { ⌜ (at + (10 + 4 * length (now indices)) ≤ length (now out)) × (4 + 4 * length (now indices) < 2 ^ 32) ⌝ }
-    ensures { λ _. ⌜ now (out .exit) ≡ overwrite (now (out .entry)) at (indicesRecord (indicesOf (now (indices .entry)))) ⌝ }
-{
-    let count = indices.len() as u32;
-    put_head(out, at, 4 + 4 * count, 5);
-    put_u32_le(out, at + 6, count);
-    put_words(out, at + 10, indices);
 }

@@ -8,6 +8,7 @@ ghost use Rattle.sections.specs.Le.{bytes};
 ghost use Rattle.vertices.specs.Buffer.{layoutNumber};
 ghost use Rattle.vertices.specs.Runs.{numbers, run};
 ghost use Rattle.halls.specs.List.{recordBytes, modelNumbers, geometryRecord, declarationRecord, verticesRecord, indicesRecord};
+ghost use Rattle.halls.specs.Inner.NewIndices.{indicesOf};
 ghost use Rattle.halls.specs.Inner.View.{numbersSeen, HeldIn, heldCount, indicesIn, indicesLength};
 ghost use Rattle.halls.specs.declared.read.view.FoundIndices.the-variants.{Indices};
 use crate::check::words::put_words;
@@ -110,12 +111,12 @@ pub fn put_indices(out: &mut [u8], at: usize, view: IndexView, raw: &[u8])
 
 // The same of indices that a caller lends.
 pub fn put_lent_indices(out: &mut [u8], at: usize, indices: &[u32])
-    requires { ⌜ (at + (10 + 4 * length (now indices)) ≤ length (now out)) × (length (now indices) < 2 ^ 29) ⌝ }
-    ensures { λ _. ⌜ now (out .exit) ≡ overwrite (now (out .entry)) at (indicesRecord (record { count = length (now (indices .entry)); items = now (indices .entry) })) ⌝ }
+    requires { ⌜ (at + (10 + 4 * length (now indices)) ≤ length (now out)) × (4 + 4 * length (now indices) < 2 ^ 32) ⌝ }
+    ensures { λ _. ⌜ now (out .exit) ≡ overwrite (now (out .entry)) at (indicesRecord (indicesOf (now (indices .entry)))) ⌝ }
 {
-    let held = indices.len() as u32;
-    put_head(out, at, 4 + 4 * held, 5);
-    put_u32_le(out, at + 6, held);
+    let count = indices.len() as u32;
+    put_head(out, at, 4 + 4 * count, 5);
+    put_u32_le(out, at + 6, count);
     put_words(out, at + 10, indices);
 }
 

@@ -13,7 +13,8 @@ returns c =
     let move = put .before .before .before .before in
     let start = move .before .before .before .before in
     let p = start .pre in
-    all-written _ _ _ _ _ _ (p .0) (p .1) (p .2) (p .3) refl refl (move .move-tail .ensures) (put .put-record .ensures) (first .put-u32-le .ensures) (last .put-u32-le2 .ensures)
+    all-written _ _ _ _ _ _ (p .0) (p .1) (p .2) (p .3) refl refl (move .move-tail .ensures)
+    (put .put-lent-indices .ensures) (first .put-u32-le .ensures) (last .put-u32-le2 .ensures)
 
 pub rewrite-spec : {M : Type 1} → statement M
 rewrite-spec =
