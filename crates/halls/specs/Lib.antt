@@ -8,6 +8,7 @@ pub mod Triangles
 pub mod Every
 pub mod Hall
 pub mod Parsing
+pub mod Fronts
 pub mod ImageSize
 pub mod Checks
 pub mod State

@@ -1,17 +1,16 @@
 -- The geometry and the model at the front of a list: their parts as the code reads them.
-use mathlib.Core.Path.{_≡_, refl, ap, _∙_}
+use mathlib.Core.Path.{_≡_, refl, _∙_}
 use mathlib.Core.List.{List}
 use Prim.Native.Nat.{ℕ, _+_, _*_, _-_, _≤_, _^_}
 use native.Mathlib.Omega.{arith}
 use lib.ListN.{length, take, drop, length-take, length-drop}
 use Rattle.sections.specs.Edit.{part}
 use Rattle.sections.proofs.EditLaws.{part-length}
+use Rattle.halls.specs.Fronts.{GeometryFront, Shaped, contentAt, heldAt, frontGeometry}
 use Rattle.halls.specs.ImageSize.{padded, geometrySize}
-use Rattle.halls.specs.Inner.Judging.{GeometryFront, contentAt, heldAt, frontGeometry}
-use Rattle.halls.specs.declared.check.geometry.GeometryHead.{GeometryHead}
-use Rattle.halls.proofs.JudgingLaws.{front-head}
-use Rattle.images.specs.Fronts.{geometryLength, imageLimit, Room, Shaped}
-use Rattle.images.specs.declared.fronts.GeometryShape.{GeometryShape}
+use Rattle.halls.specs.declared.format.front.GeometryShape.{GeometryShape}
+use Rattle.halls.proofs.JudgingLaws.{front-held}
+use Rattle.images.specs.Fronts.{geometryLength, imageLimit, Room}
 use Rattle.images.specs.declared.fronts.Measured.{Measured}
 
 abbrev measuredAs : ℕ → ℕ → Measured
@@ -44,7 +43,7 @@ module _ (s : List ℕ) (h : geometryLength s ≤ length s) where
   content-length = length-drop 7 (part s 48 (7 + contentAt s)) ∙ omega (arith, part-length s 48 (7 + contentAt s) (omega (arith, whole)))
 
   pub held-length : length (frontGeometry s .indices .items) ≡ heldAt s
-  held-length = ap (λ (x : GeometryHead). x .held) (front-head geometry-front)
+  held-length = front-held geometry-front
 
   pub geometry-size : geometrySize (frontGeometry s) ≡ 0x190 + padded (contentAt s) + padded (2 * heldAt s)
   unfolding geometrySize

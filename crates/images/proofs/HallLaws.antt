@@ -6,8 +6,8 @@ use native.Mathlib.Omega.{arith}
 use lib.ListN.{length, take, drop}
 use Rattle.halls.specs.Checks.{geometryCount}
 use Rattle.halls.specs.Every.{sumOf}
+use Rattle.halls.specs.Fronts.{entriesAt}
 use Rattle.halls.specs.ImageSize.{padded, modelSize, imageSize}
-use Rattle.halls.specs.Inner.Judging.{entriesAt}
 use Rattle.halls.proofs.WalkLaws.{slice-rest}
 use Rattle.images.specs.Fronts.{itemsLength, frontModel, modelLength, modelsFrom, modelsSize, imageLimit, hallOfList, modelCount, SoundList}
 use Rattle.images.specs.Image.{modelImage}

@@ -14,8 +14,8 @@ use Rattle.vertices.specs.Declaration.{declarationBytes}
 use Rattle.vertices.proofs.DeclarationLaws.{declaration-length}
 use Rattle.halls.specs.Checks.{countsWithinLimits, imageWithinLimit}
 use Rattle.halls.specs.Every.{Each}
+use Rattle.halls.specs.Fronts.{entriesAt, contentAt, heldAt, frontGeometry}
 use Rattle.halls.specs.Hall.{FullGeometry, FullModel, Hall, FullGeometryInWidth, FullModelInWidth, HallInWidth, listedGeometry, listedModel, hallBytes}
-use Rattle.halls.specs.Inner.Judging.{entriesAt, contentAt, heldAt, frontGeometry}
 use Rattle.halls.specs.List.{each, recordBytes, modelBody, geometryBody, verticesBody, indicesBody, modelRecord, geometryRecord, declarationRecord, verticesRecord, indicesRecord, writeGeometry, writeGeometries, writeModel}
 use Rattle.halls.specs.List as list
 use Rattle.halls.proofs.BodyLaws.{model-body-length, model-read-back, geometry-body-length, vertices-body-length, vertices-read-back, indices-body-length, geometry-read-back}

@@ -1,11 +1,13 @@
 -- What is read from sections of bytes fits its widths, and so does the state of a hall that is taken in.
 use mathlib.Core.Path.{_≡_, subst}
-use mathlib.Core.Bool.{Bool, true, false}
+use mathlib.Core.Bool.{Bool, true, false, cond}
 use mathlib.Core.List.{List, [], _∷_, map}
 use mathlib.Core.Option.{Option, none, some}
-use Prim.Native.Nat.{ℕ, _^_, _≤_, _<_}
+use Prim.{Unit}
+use Prim.Native.Nat.{ℕ, suc, _+_, _^_, _≤_, _<_}
 use native.Mathlib.Omega.{arith}
-use lib.Dec.{eqb, lit<}
+use lib.Dec.{eqb, ltb, lit<}
+use lib.ListN.{length}
 use Rattle.sections.specs.Address.{Sections, withinLimit, rangeOf, resolved}
 use Rattle.sections.specs.Le.{field}
 use Rattle.sections.specs.Lists.{headerOf, headerLength}
@@ -26,21 +28,62 @@ use Rattle.halls.specs.Calls.{test, takenGeometry, both, allOf, takenModel, tak
 use Rattle.halls.specs.Every.{Each}
 use Rattle.halls.specs.Hall.{FullGeometry, FullModel, Hall}
 use Rattle.halls.specs.List.{Vertices, Indices, Geometry, Model}
-use Rattle.halls.specs.Reading.{Reading, read, need, listAt, indicesAt, sizedIndices, indicesOf, declarationOf, storedIn, verticesOf, geometryWith, geometryOf, first, rest, mappingOf, readModels, readHeader, readList}
+use Rattle.halls.specs.Reading.{
+  Reading,
+  refused,
+  read,
+  need,
+  andThen,
+  listAt,
+  indicesAt,
+  sizedIndices,
+  indicesOf,
+  declarationOf,
+  storedIn,
+  verticesOf,
+  geometryWith,
+  geometryOf,
+  first,
+  rest,
+  mappingOf,
+  readGeometries,
+  readModel,
+  readModels,
+  readHeader,
+  readList,
+}
 use Rattle.halls.specs.State.{geometryState, modelState, stateOf, GeometryInWidth, ModelInWidth, StateInWidth}
-use Rattle.halls.specs.Inner.View.{geometryIn, geometriesAt, modelOf, modelIn, modelsAt}
 use Rattle.halls.proofs.BodyLaws.{AllBytes, numbers-below}
 use Rattle.halls.proofs.EveryLaws.{below-each}
 use Rattle.halls.proofs.ReadBytes.{IfThere, there-map, there-or, there-cond, range-below, resolved-below}
-use Rattle.halls.proofs.ReadingLaws.{read-injective, not-read, need-read, then-read}
-use Rattle.halls.proofs.SecondPass.{models-read}
-use Rattle.halls.proofs.SoundEdits.{each-to, each-join}
+use Rattle.halls.proofs.ReadingLaws.{read-injective, not-read, then-read}
+use Rattle.halls.proofs.SoundEdits.{each-to}
 
 -- ---- what may be there has a property
 
 there-else : {A : Type 0} (P : A → Type 0) (x y : Option A) → IfThere P x → IfThere P y → IfThere P (orElse x y)
 there-else P none y v w = w
 there-else P (some a) y v w = v
+
+-- ---- what was read has a property
+
+abbrev IfRead : {A : Type 0} → (A → Type 0) → Reading A → Type 0
+IfRead P (refused check) = Unit {0}
+IfRead P (read x) = P x
+
+read-cond : {A : Type 0} (P : A → Type 0) (t : Bool) (x y : Reading A) → IfRead P x → IfRead P y → IfRead P (cond t x y)
+read-cond P true x y v w = v
+read-cond P false x y v w = w
+
+read-need : {A B : Type 0} (Q : A → Type 0) (P : B → Type 0) (check : ℕ) (o : Option A) (f : A → Reading B) → IfThere Q o → ((x : A) → Q x → IfRead P (f x))
+    → IfRead P (need check o f)
+read-need Q P check none f v h = tt
+read-need Q P check (some x) f v h = h x v
+
+read-then : {A B : Type 0} (Q : A → Type 0) (P : B → Type 0) (r : Reading A) (f : A → Reading B) → IfRead Q r → ((x : A) → Q x → IfRead P (f x))
+    → IfRead P (andThen r f)
+read-then Q P (refused check) f v h = tt
+read-then Q P (read x) f v h = h x v
 
 -- ---- a list whose numbers fit
 
@@ -174,17 +217,17 @@ module _ (s : Sections) (system : AllBytes (s .system)) (graphics : AllBytes (s 
   rest-fit [] w = tt
   rest-fit (x ∷ xs) w = w .1
 
-  geometry-in-fits : (shader : ℕ) → shader < 2 ^ 16 → (o : Option (List ℕ)) → IfThere AllBytes o → Each GeometryFits (geometryIn s shader o)
-  unfolding Each
-  geometry-in-fits shader h none f = tt
-  geometry-in-fits shader h (some b) f = (geometry-fits shader b h f, tt)
-
-  geometries-fit : (mapping : List ℕ) → Ids mapping → (pointers : List ℕ) → Each GeometryFits (geometriesAt s mapping pointers)
-  unfolding geometriesAt Each
-  geometries-fit mapping w [] = tt
-  geometries-fit mapping w (p ∷ ps) =
-      each-join GeometryFits (geometryIn s (first mapping) (resolved s p 0x98)) _
-      (geometry-in-fits (first mapping) (first-fits mapping w) (resolved s p 0x98) (resolved-bytes p 0x98)) (geometries-fit (rest mapping) (rest-fit mapping w) ps)
+  geometries-fit : (pointers : List ℕ) (before : ℕ) (mapping : List ℕ) → Ids mapping → IfRead (Each GeometryFits) (readGeometries s before mapping pointers)
+  unfolding readGeometries Each
+  geometries-fit [] before mapping w = tt
+  geometries-fit (p ∷ ps) before mapping w =
+      let Fit : List Geometry → Type 0 = Each GeometryFits in
+      let later : (n : ℕ) → IfRead Fit (readGeometries s n (rest mapping) ps) = λ n. geometries-fit ps n (rest mapping) (rest-fit mapping w) in
+      read-cond Fit (eqb p 0) _ _ (later before)
+      (read-cond Fit (ltb before 16384) _ (refused 5)
+      (read-need AllBytes Fit 6 (resolved s p 0x98) _ (resolved-bytes p 0x98) (λ b f.
+      read-then Fit Fit (readGeometries s (suc before) (rest mapping) ps) _ (later (suc before)) (λ gs v.
+      (geometry-fits (first mapping) b (first-fits mapping w) f, v)))) tt)
 
   -- ---- models
 
@@ -192,25 +235,34 @@ module _ (s : Sections) (system : AllBytes (s .system)) (graphics : AllBytes (s 
   unfolding mappingOf Each
   mapping-fits b = there-or (λ (l : List ℕ). Ids l) (listAt s 2 (b .count) (b .mapping)) [] (list-fits 2 (b .count) (b .mapping)) tt
 
-  model-fits : (o : Option (List ℕ)) → IfThere AllBytes o → Each ModelFits (modelIn s o)
-  unfolding modelOf modelBlock Each
-  model-fits none f = tt
-  model-fits (some b) f = (
-    record { binding = field-bound 4 b 0x28 f; mask = field-bound 2 b 0x2C f; geometries = geometries-fit (mappingOf s (modelBlock b)) (mapping-fits (modelBlock b)) _ },
-    tt,
-  )
+  model-fits : (before : ℕ) (b : List ℕ) → AllBytes b → IfRead ModelFits (readModel s before (modelBlock b))
+  unfolding readModel modelBlock
+  model-fits before b f =
+      let block : ModelBlock = modelBlock b in
+      let Pointers : List ℕ → Type 0 = Each (λ (i : ℕ). i < 256 ^ 8) in
+      let mapping : List ℕ = mappingOf s block in
+      read-need Pointers ModelFits 4 (listAt s 8 (block .count) (block .geometries)) _ (list-fits 8 (block .count) (block .geometries)) (λ ps w.
+      read-then (Each GeometryFits) ModelFits (readGeometries s before mapping ps) _ (geometries-fit ps before mapping (mapping-fits block)) (λ gs v.
+      record { binding = field-bound 4 b 0x28 f; mask = field-bound 2 b 0x2C f; geometries = v }))
 
-  models-fit : (pointers : List ℕ) → Each ModelFits (modelsAt s pointers)
-  unfolding modelsAt Each
-  models-fit [] = tt
-  models-fit (p ∷ ps) = each-join ModelFits (modelIn s (resolved s p 0x30)) _ (model-fits (resolved s p 0x30) (resolved-bytes p 0x30)) (models-fit ps)
+  models-fit : (pointers : List ℕ) (before : ℕ) → IfRead (Each ModelFits) (readModels s before pointers)
+  unfolding readModels Each
+  models-fit [] before = tt
+  models-fit (p ∷ ps) before =
+      let Fit : List Model → Type 0 = Each ModelFits in
+      read-cond Fit (eqb p 0) _ _ (models-fit ps before)
+      (read-need AllBytes Fit 3 (resolved s p 0x30) _ (resolved-bytes p 0x30) (λ b f.
+      read-then ModelFits Fit (readModel s before (modelBlock b)) _ (model-fits before b f) (λ m v.
+      read-then Fit Fit (readModels s (before + length (m .geometries)) ps) _ (models-fit ps (before + length (m .geometries))) (λ ms w. (v, w)))))
 
-  header-fits : (o : Option (List ℕ)) (ms : List Model) → readHeader s o ≡ read ms → Each ModelFits ms
+  header-fits : (o : Option (List ℕ)) → IfRead (Each ModelFits) (readHeader s o)
   unfolding Each
-  header-fits none ms e = subst (Each ModelFits) (read-injective e) tt
-  header-fits (some b) ms e =
-      let n = need-read 2 (listAt s 8 (headerLength (headerOf b)) (headerOf b .pointer)) (readModels s 0) ms e in
-      subst (Each ModelFits) (models-read s (n .found) 0 ms (n .onward)) (models-fit (n .found))
+  header-fits none = tt
+  header-fits (some b) =
+      let pointer : ℕ = headerOf b .pointer in
+      let Pointers : List ℕ → Type 0 = Each (λ (i : ℕ). i < 256 ^ 8) in
+      read-need Pointers (Each ModelFits) 2 (listAt s 8 (headerLength (headerOf b)) pointer) (readModels s 0)
+      (list-fits 8 (headerLength (headerOf b)) pointer) (λ ps w. models-fit ps 0)
 
 -- ---- taken in
 
@@ -270,5 +322,5 @@ pub taken-in-width : (s : Sections) → AllBytes (s .system) → AllBytes (s .gr
 unfolding taken readList
 taken-in-width s system graphics address h e =
     let r = then-read (readList s address) _ h (test-passed 1 (withinLimit s) _ h e) in
-    let models : Each ModelFits (r .value) = header-fits s system graphics (resolved s address 16) (r .value) (r .is) in
+    let models : Each ModelFits (r .value) = subst (IfRead (Each ModelFits)) (r .is) (header-fits s system graphics (resolved s address 16)) in
     models-kept (allOf takenModel (r .value)) h (all-there ModelKept takenModel (r .value) (each-to model-taken-fits (r .value) models)) (r .onward)

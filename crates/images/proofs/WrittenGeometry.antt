@@ -6,22 +6,28 @@ use native.Mathlib.Omega.{arith}
 use lib.ListN.{length, take, drop, getD, length-append}
 use lib.Seq.{drop-at}
 use Rattle.sections.specs.Edit.{part, overwrite}
-use Rattle.sections.specs.Le.{field}
 use Rattle.sections.proofs.EditLaws.{part-add, part-length}
-use Rattle.vertices.specs.Declaration.{declarationAt, declarationBytes}
+use Rattle.vertices.specs.Declaration.{declarationBytes}
 use Rattle.vertices.specs.Runs.{numbers, run}
 use Rattle.vertices.proofs.DeclarationLaws.{declaration-written-back}
-use Rattle.halls.specs.Blocks.{GeometryBlock, IndexBlock}
+use Rattle.halls.specs.Fronts.{GeometryFront, Shaped, contentAt, heldAt, frontGeometry}
 use Rattle.halls.specs.Hall.{FullGeometry}
 use Rattle.halls.specs.ImageSize.{padded, geometrySize}
-use Rattle.halls.specs.Inner.Judging.{contentAt, heldAt, frontGeometry, headOf}
-use Rattle.halls.specs.Triangles.{heldCount}
-use Rattle.halls.specs.declared.check.geometry.GeometryHead.{GeometryHead}
-use Rattle.halls.proofs.JudgingLaws.{front-head, numbers-part}
+use Rattle.halls.specs.declared.format.front.GeometryShape.{GeometryShape}
+use Rattle.halls.proofs.JudgingLaws.{
+  front-index-count,
+  front-triangle-count,
+  front-vertex-count,
+  front-stride,
+  front-declaration,
+  front-own-stride,
+  front-count,
+  front-stored,
+  items-are,
+}
 use Rattle.halls.proofs.WalkLaws.{slice-rest}
-use Rattle.images.specs.Fronts.{geometryLength, Shaped, Room, geometryNumbers, vertexNumbers, indexNumbers, headParts}
-use Rattle.images.specs.Image.{VertexBlock, base, filled, geometryBlockBytes, vertexBlockBytes, indexBlockBytes, geometryBlockOf, vertexBlockOf, indexBlockOf, geometryImage}
-use Rattle.images.specs.declared.fronts.GeometryShape.{GeometryShape}
+use Rattle.images.specs.Fronts.{geometryLength, Room, geometryNumbers, vertexNumbers, indexNumbers, headParts}
+use Rattle.images.specs.Image.{filled, geometryBlockBytes, vertexBlockBytes, indexBlockBytes, geometryBlockOf, vertexBlockOf, indexBlockOf, geometryImage}
 use Rattle.images.proofs.BlockLaws.{index-block-length}
 use Rattle.images.proofs.LengthLaws.{filled-length, geometry-image-length}
 use Rattle.images.proofs.FrontLaws.{whole, geometry-front, content-length}
@@ -54,71 +60,41 @@ module _ (at : ℕ) (s : List ℕ) (below : (i : ℕ) → getD s i 0 < 256) (h :
   abbrev index : ℕ
   index = at + 0x130 + padded content
 
-  abbrev numbersHere : GeometryHead
-  numbersHere = record {
-    shader = field 2 s 6;
-    «index_count» = field 4 s 8;
-    «triangle_count» = field 4 s 12;
-    «vertex_count» = field 2 s 16;
-    stride = field 2 s 18;
-    declaration = declarationAt s 26;
-    layout = field 1 s 48;
-    «vertices_stride» = field 2 s 49;
-    «vertices_count» = field 4 s 51;
-    «indices_count» = field 4 s (61 + content);
-    held = held;
-  }
-
-  head-is : headOf g ≡ numbersHere
-  head-is = front-head (geometry-front s h)
+  whole-front : GeometryFront s content held
+  whole-front = geometry-front s h
 
   block-is : geometryBlockOf at g ≡ geometryNumbers at index s
   unfolding geometryBlockOf
   block-is =
-      let made : GeometryHead → ℕ → GeometryBlock = λ x n. record {
-        vertexBlock = base + (at + 0xA0);
-        indexBlock = base + (at + 0x130 + padded n);
-        indices = x .«index_count»;
-        triangles = x .«triangle_count»;
-        vertices = x .«vertex_count»;
-        stride = x .stride;
-        inline = 0;
-      } in
-      ap (λ (x : GeometryHead). made x (length (g .vertices .content))) head-is ∙ ap (made numbersHere) (content-length s h)
+      rw (
+        front-index-count whole-front,
+        front-triangle-count whole-front,
+        front-vertex-count whole-front,
+        front-stride whole-front,
+        content-length s h,
+      )
 
   vertex-is : vertexBlockOf at g ≡ vertexNumbers at s
   unfolding vertexBlockOf
-  vertex-is =
-      let made : GeometryHead → VertexBlock = λ x. record { stride = x .«vertices_stride»; content = base + (at + 0x130); count = x .«vertices_count»; info = base + (at + 0x120) } in
-      ap made head-is
+  vertex-is = rw (front-own-stride whole-front, front-count whole-front)
 
   index-is : indexBlockOf at g ≡ indexNumbers index content s
   unfolding indexBlockOf
-  index-is =
-      let made : GeometryHead → ℕ → IndexBlock = λ x n. record { count = x .«indices_count»; size = 0; legacy = base + (at + 0x130 + padded n + 0x60); sized = 0 } in
-      ap (λ (x : GeometryHead). made x (length (g .vertices .content))) head-is ∙ ap (made numbersHere) (content-length s h)
+  index-is = rw (front-stored whole-front, content-length s h)
 
   declaration-is : declarationBytes (g .declaration) ≡ part s 26 16
-  declaration-is = ap (λ (x : GeometryHead). declarationBytes (x .declaration)) head-is ∙ declaration-written-back s 26 below (omega (arith, whole s h))
+  declaration-is = rw (front-declaration whole-front) (declaration-written-back s 26 below (omega (arith, whole s h)))
 
   content-is : g .vertices .content ≡ part s 55 content
   unfolding frontGeometry
   content-is = ap (drop 7) (part-add s 48 7 content) ∙ drop-at (part s 48 7) (part s 55 content) 7 (part-length s 48 7 (omega (arith, whole s h)))
-
-  items-are : g .indices .items ≡ numbers 4 held (drop (65 + content) s)
-  unfolding frontGeometry
-  items-are =
-      let last : ℕ = 4 + 4 * held in
-      let place : 61 + content + 4 ≡ 65 + content = omega arith in
-      let count : heldCount (part s (61 + content) last) ≡ held = omega (arith, part-length s (61 + content) last (omega (arith, whole s h))) in
-      rw (count, ← place) (numbers-part 4 held s (61 + content) last 4 (omega arith))
 
   parts-are : geometryImage at g ≡ parts at s (padded content) content held
   unfolding geometryImage headParts parts
   parts-are =
       let a : List ℕ = filled (geometryBlockBytes (geometryNumbers at index s)) in
       let b : List ℕ = vertexBlockBytes (vertexNumbers at s) in
-      rw (block-is, vertex-is, index-is, declaration-is, content-is, items-are) (sym (append-three a b (part s 26 16) _))
+      rw (block-is, vertex-is, index-is, declaration-is, content-is, items-are whole-front) (sym (append-three a b (part s 26 16) _))
     where
       append-three : (a b c rest : List ℕ) → (a ++ (b ++ c)) ++ rest ≡ a ++ (b ++ (c ++ rest))
       append-three a b c rest = simp append-assoc

@@ -10,8 +10,8 @@ use Rattle.sections.proofs.EditLaws.{part-length}
 use Rattle.vertices.specs.Runs.{numbers, run}
 use Rattle.vertices.proofs.RunLaws.{numbers-length, run-numbers}
 use Rattle.halls.specs.Blocks.{ModelBlock}
+use Rattle.halls.specs.Fronts.{entriesAt, frontGeometry}
 use Rattle.halls.specs.ImageSize.{padded, geometrySize, modelSize}
-use Rattle.halls.specs.Inner.Judging.{entriesAt, frontGeometry}
 use Rattle.halls.specs.Parsing.{mappingCount}
 use Rattle.halls.proofs.BodyLaws.{drop-below}
 use Rattle.halls.proofs.JudgingLaws.{field-part, numbers-part}

@@ -1,16 +1,16 @@
 -- A hall's list as save reads it: geometries and models from a place on, each passed by its own lengths. Private contracts speak of this; `ListLaws` ties it to the hall.
 use mathlib.Core.Path.{_≡_}
 use mathlib.Core.List.{List, [], _∷_, _++_}
-use Prim.Native.Nat.{ℕ, zero, suc, _+_, _*_, _≤_, _^_}
+use Prim.Native.Nat.{ℕ, zero, suc, _+_, _*_, _≤_}
 use lib.ListN.{length, drop}
 use Rattle.sections.specs.Edit.{part}
 use Rattle.sections.specs.Le.{field}
 use Rattle.halls.specs.Blocks.{ModelBlock, GeometryBlock, IndexBlock}
 use Rattle.halls.specs.Checks.{geometryCount}
 use Rattle.halls.specs.Every.{sumOf}
+use Rattle.halls.specs.Fronts.{entriesAt, contentAt, heldAt, frontGeometry}
 use Rattle.halls.specs.Hall.{FullGeometry, FullModel, Hall}
 use Rattle.halls.specs.ImageSize.{geometrySize, modelSize, imageSize}
-use Rattle.halls.specs.Inner.Judging.{entriesAt, contentAt, heldAt, frontGeometry}
 use Rattle.halls.specs.Parsing.{modelIn, modelsIn}
 use Rattle.halls.specs.Records.{records}
 use Rattle.halls.specs.Outcome.{answerOf, after}
@@ -18,7 +18,6 @@ use Rattle.halls.specs.declared.answer.Answer.{Answer}
 use Rattle.halls.specs.declared.check.check.Verdict.the-variants.{Sound}
 use Rattle.images.specs.Image.{VertexBlock, base, filled, geometryBlockBytes, pointerTo, vertexBlockBytes}
 use Rattle.images.specs.Saving.{savedBy}
-use Rattle.images.specs.declared.fronts.GeometryShape.{GeometryShape}
 
 -- ---- k items from the front on, by the one at the front and its length
 
@@ -43,13 +42,6 @@ geometriesLength k s = itemsLength geometryLength k s
 
 abbrev pub geometriesSize : ℕ → List ℕ → ℕ
 geometriesSize k s = sumOf geometrySize (geometriesFrom k s)
-
--- what a function finds of the geometry at the front
-pub record Shaped (s : List ℕ) (r : GeometryShape) : Type 0 where
-  pub content-is : r .content ≡ contentAt s
-  pub held-is : r .held ≡ heldAt s
-  pub small : r .content ≤ 2 ^ 48
-  pub few : r .held ≤ 2 ^ 30
 
 -- ---- models: as many geometries as the mapping has entries
 

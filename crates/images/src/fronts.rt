@@ -1,19 +1,14 @@
 // A hall's list read by its own lengths: how long a geometry or a model is there, and in the image.
 ghost use mathlib.Core.Path.{_≡_};
-ghost use Prim.Native.Nat.{_-_, _≤_, _^_};
+ghost use Prim.Native.Nat.{_≤_};
 ghost use lib.ListN.{length};
+ghost use Rattle.halls.specs.Fronts.{frontGeometry};
 ghost use Rattle.halls.specs.ImageSize.{geometrySize, modelSize, imageSize};
-ghost use Rattle.halls.specs.Inner.Judging.{contentAt, entriesAt, frontGeometry};
-ghost use Rattle.images.specs.Fronts.{Shaped, geometryLength, geometriesLength, geometriesSize, frontModel, modelLength, imageLimit, hallOfList, modelCount, SoundList};
+ghost use Rattle.images.specs.Fronts.{geometryLength, geometriesLength, geometriesSize, frontModel, modelLength};
+ghost use Rattle.images.specs.Fronts.{imageLimit, hallOfList, modelCount, SoundList};
 use crate::parts::padded;
-use sections::u16_le;
-use sections::u32_le;
-
-// Vertex bytes, and indices held.
-pub struct GeometryShape {
-    pub content: usize,
-    pub held: usize,
-}
+use halls::entries_of;
+use halls::shape_of;
 
 // Bytes in the list, and in the image.
 pub struct Measured {
@@ -25,41 +20,6 @@ pub struct Measured {
 pub struct MeasuredHall {
     pub models: usize,
     pub size: usize,
-}
-
-// Of the geometry at the front.
-pub fn shape_of(front: &[u8]) -> GeometryShape
-    ensures { λ r. ⌜ Shaped (now (front .entry)) r ⌝ }
-{
-    let content = content_of(front);
-    GeometryShape {
-        content,
-        held: above(u32_le(front, 55 + content), 4) / 4,
-    }
-}
-
-// Its vertex bytes: its own count × its own stride.
-fn content_of(front: &[u8]) -> usize
-    ensures { λ r. ⌜ (r ≡ contentAt (now (front .entry))) × (r ≤ 2 ^ 48) ⌝ }
-{
-    u32_le(front, 51) as usize * u16_le(front, 49) as usize
-}
-
-// The entries of the mapping of the model at the front.
-pub fn entries_of(front: &[u8]) -> usize
-    ensures { λ r. ⌜ (r ≡ entriesAt (now (front .entry))) × (r ≤ 2 ^ 31) ⌝ }
-{
-    above(u32_le(front, 0), 6) / 2
-}
-
-// What a number has above another, 0 where that is greater.
-fn above(n: u32, base: u32) -> usize
-    ensures { λ r. ⌜ (r ≡ n - base) × (r ≤ 2 ^ 32) ⌝ }
-{
-    if n < base {
-        return 0;
-    }
-    (n - base) as usize
 }
 
 // The geometry at the front.

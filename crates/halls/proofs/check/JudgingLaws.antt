@@ -23,7 +23,8 @@ use Rattle.vertices.proofs.RunLaws.{numbers-getD, numbers-length}
 use Rattle.halls.specs.Checks.{stridesAgree, componentsInside, vertexCountsAgree, indexCountsAgree, indicesInRange, hasSize}
 use Rattle.halls.specs.Every.{every}
 use Rattle.halls.specs.Hall.{FullGeometry}
-use Rattle.halls.specs.Inner.Judging.{insideStride, GeometryFront, HeadJudged, HeadTested, frontGeometry, headOf, lowestOf, passed}
+use Rattle.halls.specs.Fronts.{GeometryFront, frontGeometry}
+use Rattle.halls.specs.Inner.Judging.{insideStride, HeadJudged, HeadTested, headOf, lowestOf, passed}
 use Rattle.halls.specs.Triangles.{heldCount}
 use Rattle.halls.specs.declared.check.geometry.GeometryHead.{GeometryHead}
 
@@ -81,29 +82,64 @@ module _ {s : List ℕ} {content held : ℕ} (f : GeometryFront s content held) 
   held-count : heldCount (part s (61 + content) last) ≡ held
   held-count = omega (arith, part-length s (61 + content) last index-fits)
 
-  items-are : g .indices .items ≡ numbers 4 held (drop (65 + content) s)
+  pub items-are : g .indices .items ≡ numbers 4 held (drop (65 + content) s)
   unfolding frontGeometry
   items-are =
       let at : 61 + content + 4 ≡ 65 + content = omega arith in
       rw (← f .content-is, ← f .held-is, held-count, ← at) (numbers-part 4 held s (61 + content) last 4 (omega arith))
 
-  front-held : length (g .indices .items) ≡ held
+  pub front-held : length (g .indices .items) ≡ held
   front-held = rw items-are (numbers-length 4 held (drop (65 + content) s))
 
-  front-declaration : g .declaration ≡ declarationAt s 26
+  -- its numbers, each at its place
+  numbers-fit : 6 + 14 ≤ length s
+  numbers-fit = omega (arith, f .long)
+
+  vertices-fit : 48 + (7 + content) ≤ length s
+  vertices-fit = omega (arith, f .long)
+
+  front-shader : g .shader ≡ field 2 s 6
+  unfolding frontGeometry
+  front-shader = field-part 2 s 6 14 0 (omega arith) numbers-fit
+
+  pub front-index-count : g .indexCount ≡ field 4 s 8
+  unfolding frontGeometry
+  front-index-count = field-part 4 s 6 14 2 (omega arith) numbers-fit
+
+  pub front-triangle-count : g .triangleCount ≡ field 4 s 12
+  unfolding frontGeometry
+  front-triangle-count = field-part 4 s 6 14 6 (omega arith) numbers-fit
+
+  pub front-vertex-count : g .vertexCount ≡ field 2 s 16
+  unfolding frontGeometry
+  front-vertex-count = field-part 2 s 6 14 10 (omega arith) numbers-fit
+
+  pub front-stride : g .stride ≡ field 2 s 18
+  unfolding frontGeometry
+  front-stride = field-part 2 s 6 14 12 (omega arith) numbers-fit
+
+  pub front-declaration : g .declaration ≡ declarationAt s 26
   unfolding frontGeometry
   front-declaration = declaration-part s 26 16 0 (omega arith) (omega (arith, f .long))
 
-  front-count : g .vertices .count ≡ field 4 s 51
+  front-layout : g .vertices .layout ≡ field 1 s 48
   unfolding frontGeometry
-  front-count = rw (← f .content-is) (field-part 4 s 48 (7 + content) 3 (omega arith) (omega (arith, f .long)))
+  front-layout = rw (← f .content-is) (field-part 1 s 48 (7 + content) 0 (omega arith) vertices-fit)
 
-  front-stored : g .indices .count ≡ field 4 s (61 + content)
+  pub front-own-stride : g .vertices .stride ≡ field 2 s 49
+  unfolding frontGeometry
+  front-own-stride = rw (← f .content-is) (field-part 2 s 48 (7 + content) 1 (omega arith) vertices-fit)
+
+  pub front-count : g .vertices .count ≡ field 4 s 51
+  unfolding frontGeometry
+  front-count = rw (← f .content-is) (field-part 4 s 48 (7 + content) 3 (omega arith) vertices-fit)
+
+  pub front-stored : g .indices .count ≡ field 4 s (61 + content)
   unfolding frontGeometry
   front-stored =
       rw (← f .content-is, ← f .held-is) (field-part 4 s (61 + content) last 0 (omega arith) index-fits ∙ ap (field 4 s) (add-zero (61 + content)))
 
-  -- the numbers, each at its place
+  -- all of them
   pub front-head : headOf g
       ≡ record {
         shader = field 2 s 6;
@@ -118,18 +154,20 @@ module _ {s : List ℕ} {content held : ℕ} (f : GeometryFront s content held) 
         «indices_count» = field 4 s (61 + content);
         held = held;
       }
-  unfolding frontGeometry
   front-head =
-      let a : 6 + 14 ≤ length s = omega (arith, f .long) in
-      let b : 48 + (7 + content) ≤ length s = omega (arith, f .long) in
-      let shader : g .shader ≡ field 2 s 6 = field-part 2 s 6 14 0 (omega arith) a in
-      let indexes : g .indexCount ≡ field 4 s 8 = field-part 4 s 6 14 2 (omega arith) a in
-      let triangles : g .triangleCount ≡ field 4 s 12 = field-part 4 s 6 14 6 (omega arith) a in
-      let vertices : g .vertexCount ≡ field 2 s 16 = field-part 2 s 6 14 10 (omega arith) a in
-      let stride : g .stride ≡ field 2 s 18 = field-part 2 s 6 14 12 (omega arith) a in
-      let layout : g .vertices .layout ≡ field 1 s 48 = rw (← f .content-is) (field-part 1 s 48 (7 + content) 0 (omega arith) b) in
-      let own : g .vertices .stride ≡ field 2 s 49 = rw (← f .content-is) (field-part 2 s 48 (7 + content) 1 (omega arith) b) in
-      cc (front-declaration, front-count, front-stored, front-held)
+      cc (
+        front-shader,
+        front-index-count,
+        front-triangle-count,
+        front-vertex-count,
+        front-stride,
+        front-declaration,
+        front-layout,
+        front-own-stride,
+        front-count,
+        front-stored,
+        front-held,
+      )
 
   -- check 18 of it is that of the indices from their place on
   front-range : {limit : ℕ} {t : Bool} → limit ≡ g .vertices .count → t ≡ every (λ (i : ℕ). ltb i limit) (numbers 4 held (drop (65 + content) s)) → t ≡ indicesInRange g

@@ -17,7 +17,8 @@ use Rattle.vertices.specs.Runs.{numbers}
 use Rattle.halls.specs.Every.{every}
 use Rattle.halls.specs.Hall.{FullGeometry}
 use Rattle.halls.specs.Inner.HallRecords.{ofKind}
-use Rattle.halls.specs.Inner.Judging.{GeometryFront, frontGeometry, lowestOf}
+use Rattle.halls.specs.Fronts.{GeometryFront, frontGeometry}
+use Rattle.halls.specs.Inner.Judging.{lowestOf}
 use Rattle.halls.specs.Parsing.{whole, follows, mayEnd, ordered, exact, structured, geometryIn, mappingCount}
 use Rattle.halls.specs.Records.{Record, records}
 use Rattle.halls.specs.Inner.Walk.{frontOf, wellFrom, leads, rest, isEmpty, failing, lowestFrom, kindCount, units, modelUnits, geometryUnits, unitsFrom, leftOf, startTally, beforeOf, Walked, Turned}

@@ -17,12 +17,14 @@ use Rattle.sections.proofs.AddressLaws.{both-true}
 use Rattle.sections.proofs.EditLaws.{part-length}
 use Rattle.halls.specs.Every.{every}
 use Rattle.halls.specs.Inner.HallRecords.{ofKind}
-use Rattle.halls.specs.Inner.Judging.{hasRecord, entriesAt, hasModel, contentAt, heldAt, hasGeometry}
+use Rattle.halls.specs.Fronts.{Shaped, entriesAt, contentAt, heldAt}
+use Rattle.halls.specs.Inner.Judging.{hasRecord, hasModel, hasGeometry}
 use Rattle.halls.specs.Parsing.{recordsLength, whole, follows, mayEnd, ordered, dueLength, exact}
 use Rattle.halls.specs.Records.{Record, bodyLength, frontRecord, records}
 use Rattle.halls.specs.Inner.Walk.{frontOf, wellFrom}
 use Rattle.halls.specs.declared.format.front.Front.{Front}
 use Rattle.halls.specs.declared.format.front.Front.the-variants.{Model, Geometry, Broken}
+use Rattle.halls.specs.declared.format.front.GeometryShape.{GeometryShape}
 use Rattle.halls.proofs.check.JudgingLaws.{field-part}
 use Rattle.halls.proofs.format.RecordLaws.{field-drop, records-stop, records-step}
 
@@ -180,51 +182,47 @@ module _ (s : List ℕ) where
 
 -- as the code tests them
 module _ (s : List ℕ) where
-  pub front-model : {n : ℕ} → n ≡ field 4 s 0 - 6 → hasRecord s 0 1 (6 + 2 * (n / 2)) ≡ true → Model (n / 2) ≡ frontOf s
-  unfolding frontOf hasModel
-  front-model e h = let m : hasRecord s 0 1 (6 + 2 * entriesAt s) ≡ true = rw (← e) h in rw (m, e)
+  -- a record of the four is missing
+  pub geometry-second : hasRecord s 0 2 14 ≡ false → false ≡ hasGeometry s
+  unfolding hasGeometry
+  geometry-second h = rw h
 
-  module _ {n content : ℕ} (e : n ≡ field 4 s 0 - 6) (no-model : hasRecord s 0 1 (6 + 2 * (n / 2)) ≡ false) (c : content ≡ contentAt s) where
-    not-model : hasModel s ≡ false
-    unfolding hasModel
-    not-model = rw (← e) no-model
+  pub geometry-third : hasRecord s 20 3 16 ≡ false → false ≡ hasGeometry s
+  unfolding hasGeometry
+  geometry-third h = rw h (sym (and-false (hasRecord s 0 2 14)))
 
-    not-geometry : hasGeometry s ≡ false → Broken ≡ frontOf s
-    unfolding frontOf
-    not-geometry h = rw (not-model, h)
-
-    pub front-second : hasRecord s 0 2 14 ≡ false → Broken ≡ frontOf s
+  module _ {r : GeometryShape} (q : Shaped s r) where
+    pub geometry-fourth : hasRecord s 42 4 (7 + r .content) ≡ false → false ≡ hasGeometry s
     unfolding hasGeometry
-    front-second h = not-geometry (rw h)
+    geometry-fourth h =
+        let k : hasRecord s 42 4 (7 + contentAt s) ≡ false = rw (← q .content-is) h in
+        rw (k, and-false (hasRecord s 20 3 16)) (sym (and-false (hasRecord s 0 2 14)))
 
-    pub front-third : hasRecord s 20 3 16 ≡ false → Broken ≡ frontOf s
+    -- the last one decides
+    pub geometry-fifth : {t : Bool} → hasRecord s 0 2 14 ≡ true → hasRecord s 20 3 16 ≡ true → hasRecord s 42 4 (7 + r .content) ≡ true
+        → t ≡ hasRecord s (55 + r .content) 5 (4 + 4 * r .held) → t ≡ hasGeometry s
     unfolding hasGeometry
-    front-third h = not-geometry (rw h (and-false (hasRecord s 0 2 14)))
+    geometry-fifth a b c e =
+        let c′ : hasRecord s 42 4 (7 + contentAt s) ≡ true = rw (← q .content-is) c in
+        e ∙ rw (a, b, c′, q .content-is, q .held-is)
 
-    pub front-fourth : hasRecord s 42 4 (7 + content) ≡ false → Broken ≡ frontOf s
-    unfolding hasGeometry
-    front-fourth h =
-        let k : hasRecord s 42 4 (7 + contentAt s) ≡ false = rw (← c) h in
-        not-geometry (rw (k, and-false (hasRecord s 20 3 16)) (and-false (hasRecord s 0 2 14)))
+  module _ {entries : ℕ} (e : entries ≡ entriesAt s) where
+    pub front-model : hasRecord s 0 1 (6 + 2 * entries) ≡ true → Model entries ≡ frontOf s
+    unfolding frontOf hasModel
+    front-model h = let m : hasRecord s 0 1 (6 + 2 * entriesAt s) ≡ true = rw (← e) h in rw (m, e)
 
-    module _ {m : ℕ} (f : m ≡ field 4 s (55 + content) - 4) where
-      held-is : m / 4 ≡ heldAt s
-      unfolding heldAt
-      held-is = rw (← c, f)
+    module _ (other : hasRecord s 0 1 (6 + 2 * entries) ≡ false) where
+      not-model : hasModel s ≡ false
+      unfolding hasModel
+      not-model = rw (← e) other
 
-      pub front-fifth : hasRecord s (55 + content) 5 (4 + 4 * (m / 4)) ≡ false → Broken ≡ frontOf s
-      unfolding hasGeometry
-      front-fifth h =
-          let k : hasRecord s (55 + contentAt s) 5 (4 + 4 * heldAt s) ≡ false = rw (← c, ← held-is) h in
-          not-geometry (rw (k, and-false (hasRecord s 42 4 (7 + contentAt s)), and-false (hasRecord s 20 3 16)) (and-false (hasRecord s 0 2 14)))
+      pub front-geometry : {r : GeometryShape} → Shaped s r → hasGeometry s ≡ true → Geometry (r .content) (r .held) ≡ frontOf s
+      unfolding frontOf
+      front-geometry q h = rw (not-model, h, q .content-is, q .held-is)
 
-      pub front-geometry : hasRecord s 0 2 14 ≡ true → hasRecord s 20 3 16 ≡ true → hasRecord s 42 4 (7 + content) ≡ true → hasRecord s (55 + content) 5 (4 + 4 * (m / 4)) ≡ true
-          → Geometry content (m / 4) ≡ frontOf s
-      unfolding hasGeometry frontOf
-      front-geometry p q r t =
-          let r′ : hasRecord s 42 4 (7 + contentAt s) ≡ true = rw (← c) r in
-          let t′ : hasRecord s (55 + contentAt s) 5 (4 + 4 * heldAt s) ≡ true = rw (← c, ← held-is) t in
-          rw (not-model, p, q, r′, t′, c, held-is)
+      pub front-broken : hasGeometry s ≡ false → Broken ≡ frontOf s
+      unfolding frontOf
+      front-broken h = rw (not-model, h)
 
 -- ---- they are exact in length
 

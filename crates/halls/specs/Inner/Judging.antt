@@ -1,17 +1,18 @@
--- How the check finds its verdict in one pass: the lowest number that a geometry fails, and the geometry at the front of some bytes. Private contracts speak of this; `JudgingLaws` and `WalkLaws` tie it to the verdict.
+-- How the check finds its verdict in one pass: the lowest number that a geometry fails, and whether a model or a geometry stands at the front of some bytes.
+-- Private contracts speak of this; `JudgingLaws` and `WalkLaws` tie it to the verdict.
 use mathlib.Core.Path.{_≡_}
 use mathlib.Core.Bool.{Bool, cond, _&&_}
 use mathlib.Core.List.{List}
-use Prim.Native.Nat.{ℕ, _+_, _*_, _-_, _/_, _≤_}
+use Prim.Native.Nat.{ℕ, _+_, _*_}
 use lib.Dec.{eqb, leb}
 use lib.ListN.{length}
-use Rattle.sections.specs.Edit.{part, fits}
+use Rattle.sections.specs.Edit.{fits}
 use Rattle.sections.specs.Le.{field}
 use Rattle.vertices.specs.Declaration.{componentOf, totalSize}
 use Rattle.vertices.specs.declared.declaration.VertexDeclaration.{VertexDeclaration}
 use Rattle.halls.specs.Checks.{vertexBytesExact, stridesAgree, hasSize, componentsInside, vertexCountsAgree, indexCountsAgree, indicesInRange}
+use Rattle.halls.specs.Fronts.{entriesAt, contentAt, heldAt}
 use Rattle.halls.specs.Hall.{FullGeometry}
-use Rattle.halls.specs.Parsing.{geometryIn}
 use Rattle.halls.specs.declared.check.geometry.GeometryHead.{GeometryHead}
 
 -- ---- one geometry
@@ -65,28 +66,8 @@ pub record HeadTested (test : FullGeometry → Bool) (head : GeometryHead) (r : 
 unfoldable pub hasRecord : List ℕ → ℕ → ℕ → ℕ → Bool
 hasRecord s at kind n = fits s at (6 + n) && (eqb (field 4 s at) n && eqb (field 2 s (at + 4)) kind)
 
--- a model's record: the entries of its mapping
-abbrev pub entriesAt : List ℕ → ℕ
-entriesAt s = (field 4 s 0 - 6) / 2
-
 unfoldable pub hasModel : List ℕ → Bool
 hasModel s = hasRecord s 0 1 (6 + 2 * entriesAt s)
 
--- a geometry's four records: its vertex bytes by count and stride, and the indices held
-unfoldable pub contentAt : List ℕ → ℕ
-contentAt s = field 4 s 51 * field 2 s 49
-
-unfoldable pub heldAt : List ℕ → ℕ
-heldAt s = (field 4 s (55 + contentAt s) - 4) / 4
-
 unfoldable pub hasGeometry : List ℕ → Bool
 hasGeometry s = hasRecord s 0 2 14 && (hasRecord s 20 3 16 && (hasRecord s 42 4 (7 + contentAt s) && hasRecord s (55 + contentAt s) 5 (4 + 4 * heldAt s)))
-
-unfoldable pub frontGeometry : List ℕ → FullGeometry
-frontGeometry s = geometryIn (part s 6 14) (part s 26 16) (part s 48 (7 + contentAt s)) (part s (61 + contentAt s) (4 + 4 * heldAt s))
-
--- a geometry with `content` vertex bytes and `held` indices is whole at the front of s
-pub record GeometryFront (s : List ℕ) (content held : ℕ) : Type 0 where
-  pub content-is : content ≡ contentAt s
-  pub held-is : held ≡ heldAt s
-  pub long : 65 + content + 4 * held ≤ length s

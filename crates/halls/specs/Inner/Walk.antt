@@ -10,7 +10,8 @@ use Rattle.halls.specs.Every.{every}
 use Rattle.halls.specs.Checks.{geometryCount, judged, hallVerdict}
 use Rattle.halls.specs.Hall.{FullGeometry, Hall}
 use Rattle.halls.specs.ImageSize.{imageSize}
-use Rattle.halls.specs.Inner.Judging.{passed, lowestOf, entriesAt, hasModel, contentAt, heldAt, hasGeometry}
+use Rattle.halls.specs.Fronts.{entriesAt, contentAt, heldAt}
+use Rattle.halls.specs.Inner.Judging.{passed, lowestOf, hasModel, hasGeometry}
 use Rattle.halls.specs.Parsing.{whole, ordered, exact, mappingCount, bodyAt, geometryIn, modelsIn, parse, structured}
 use Rattle.halls.specs.Records.{Record, records}
 use Rattle.halls.specs.declared.check.check.Verdict.{Verdict}

@@ -1,7 +1,8 @@
 // Checks 14 to 18 of one geometry.
 ghost use mathlib.Core.Path.{_≡_};
 ghost use Rattle.halls.specs.Checks.{stridesAgree, vertexCountsAgree, indexCountsAgree};
-ghost use Rattle.halls.specs.Inner.Judging.{GeometryFront, HeadJudged, HeadTested, frontGeometry, headOf, insideStride, lowestOf};
+ghost use Rattle.halls.specs.Fronts.{GeometryFront, frontGeometry};
+ghost use Rattle.halls.specs.Inner.Judging.{HeadJudged, HeadTested, headOf, insideStride, lowestOf};
 use crate::check::scan::indices_below;
 use sections::u8_le;
 use sections::u16_le;

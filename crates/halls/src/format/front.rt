@@ -1,7 +1,8 @@
 // What stands at the front of a hall's bytes.
 ghost use mathlib.Core.Path.{_≡_};
 ghost use Prim.Native.Nat.{_-_, _≤_, _^_};
-ghost use Rattle.halls.specs.Inner.Judging.{hasRecord, contentAt};
+ghost use Rattle.halls.specs.Fronts.{Shaped, contentAt, entriesAt};
+ghost use Rattle.halls.specs.Inner.Judging.{hasRecord, hasGeometry};
 ghost use Rattle.halls.specs.Inner.Walk.{frontOf};
 use sections::ends_inside;
 use sections::u16_le;
@@ -14,29 +15,67 @@ pub enum Front {
     Broken,
 }
 
+// Vertex bytes, and indices held.
+pub struct GeometryShape {
+    pub content: usize,
+    pub held: usize,
+}
+
 // Each record is exact in length by its own numbers.
 pub fn front_of(list: &[u8]) -> Front
     ensures { λ r. ⌜ r ≡ frontOf (now (list .entry)) ⌝ }
 {
-    let entries = above(u32_le(list, 0), 6) / 2;
+    let entries = entries_of(list);
     if has_record(list, 0, 1, 6 + 2 * entries) {
         return Front::Model(entries);
     }
-    let content = content_length(list);
+    let shape = shape_of(list);
+    if has_geometry(list, shape) {
+        return Front::Geometry(shape.content, shape.held);
+    }
+    Front::Broken
+}
+
+// The entries of the mapping of the model at the front.
+pub fn entries_of(front: &[u8]) -> usize
+    ensures { λ r. ⌜ (r ≡ entriesAt (now (front .entry))) × (r ≤ 2 ^ 31) ⌝ }
+{
+    above(u32_le(front, 0), 6) / 2
+}
+
+// Of the geometry at the front.
+pub fn shape_of(front: &[u8]) -> GeometryShape
+    ensures { λ r. ⌜ Shaped (now (front .entry)) r ⌝ }
+{
+    let content = content_of(front);
+    GeometryShape {
+        content,
+        held: above(u32_le(front, 55 + content), 4) / 4,
+    }
+}
+
+// Its vertex bytes: its own count × its own stride.
+fn content_of(front: &[u8]) -> usize
+    ensures { λ r. ⌜ (r ≡ contentAt (now (front .entry))) × (r ≤ 2 ^ 48) ⌝ }
+{
+    u32_le(front, 51) as usize * u16_le(front, 49) as usize
+}
+
+// A geometry's four records stand at the front, one behind the other.
+fn has_geometry(list: &[u8], shape: GeometryShape) -> bool
+    requires { ⌜ Shaped (now list) shape ⌝ }
+    ensures { λ r. ⌜ r ≡ hasGeometry (now (list .entry)) ⌝ }
+{
     if !has_record(list, 0, 2, 14) {
-        return Front::Broken;
+        return false;
     }
     if !has_record(list, 20, 3, 16) {
-        return Front::Broken;
+        return false;
     }
-    if !has_record(list, 42, 4, 7 + content) {
-        return Front::Broken;
+    if !has_record(list, 42, 4, 7 + shape.content) {
+        return false;
     }
-    let held = above(u32_le(list, 55 + content), 4) / 4;
-    if !has_record(list, 55 + content, 5, 4 + 4 * held) {
-        return Front::Broken;
-    }
-    Front::Geometry(content, held)
+    has_record(list, 55 + shape.content, 5, 4 + 4 * shape.held)
 }
 
 // At this place a record of this kind begins, with a body of n bytes.
@@ -51,13 +90,6 @@ fn has_record(list: &[u8], at: usize, kind: u16, n: usize) -> bool
         return false;
     }
     u16_le(list, at + 4) == kind
-}
-
-// The vertex bytes of a geometry: its own count × its own stride.
-fn content_length(list: &[u8]) -> usize
-    ensures { λ r. ⌜ (r ≡ contentAt (now (list .entry))) × (r ≤ 2 ^ 48) ⌝ }
-{
-    u32_le(list, 51) as usize * u16_le(list, 49) as usize
 }
 
 // What a number has above another, 0 where that is greater.

@@ -1,8 +1,8 @@
 -- Each geometry passed adds its length and its size; none is left at the end.
 use Prim.Native.Nat.{_≤_}
 use native.Mathlib.Omega.{arith}
+use Rattle.halls.specs.Fronts.{frontGeometry}
 use Rattle.halls.specs.ImageSize.{geometrySize}
-use Rattle.halls.specs.Inner.Judging.{frontGeometry}
 use Rattle.images.specs.Fronts.{geometryLength, geometriesSize, imageLimit}
 use Rattle.images.proofs.WalkLaws.{Walking, walk-measured, walk-start, walk-place, walk-rest, walk-fits, walk-size, walk-turn, walk-length, walk-sum}
 use Rattle.images.proofs.fronts.measure_geometries.Statement.{statement}

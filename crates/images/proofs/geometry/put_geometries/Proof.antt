@@ -1,7 +1,7 @@
 -- Each turn writes the next geometry right behind those passed.
 use native.Mathlib.Omega.{arith}
+use Rattle.halls.specs.Fronts.{frontGeometry}
 use Rattle.halls.specs.ImageSize.{geometrySize}
-use Rattle.halls.specs.Inner.Judging.{frontGeometry}
 use Rattle.images.specs.Fronts.{geometryLength}
 use Rattle.images.specs.Image.{geometryImage}
 use Rattle.images.proofs.LengthLaws.{geometry-image-length}

@@ -1,8 +1,8 @@
 -- Each turn puts the address of the next geometry, which lies behind those passed.
 use native.Mathlib.Omega.{arith}
 use borrow.Author.Needs.{needs}
+use Rattle.halls.specs.Fronts.{frontGeometry}
 use Rattle.halls.specs.ImageSize.{geometrySize}
-use Rattle.halls.specs.Inner.Judging.{frontGeometry}
 use Rattle.images.specs.Fronts.{geometryLength}
 use Rattle.images.proofs.LayingLaws.{Addressing, addressing-start, address-low, address-room, place-fits, target-fits, addressing-turn, addressing-end}
 use Rattle.images.proofs.WalkLaws.{walk-measured, walk-place, walk-rest}

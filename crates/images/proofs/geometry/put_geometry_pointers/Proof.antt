@@ -2,8 +2,8 @@
 use mathlib.Core.Path.{ap, _∙_}
 use Prim.Native.Nat.{ℕ, _*_}
 use borrow.Author.Needs.{needs}
+use Rattle.halls.specs.Fronts.{frontGeometry}
 use Rattle.halls.specs.ImageSize.{geometrySize}
-use Rattle.halls.specs.Inner.Judging.{frontGeometry}
 use Rattle.images.specs.Fronts.{geometryLength}
 use Rattle.images.proofs.PartLaws.{filled-behind}
 use Rattle.images.proofs.SizeLaws.{pointers-length}

@@ -1,7 +1,7 @@
 -- The head's lowest, and where it has none check 18, which is the scan's.
 use native.Mathlib.Omega.{arith}
 use borrow.Author.Needs.{needs}
-use Rattle.halls.specs.Inner.Judging.{frontGeometry}
+use Rattle.halls.specs.Fronts.{frontGeometry}
 use Rattle.halls.proofs.check.JudgingLaws.{lowest-head, lowest-scanned}
 use Rattle.halls.proofs.check.geometry.geometry_lowest.Statement.{statement}
 use Rattle.halls.proofs.check.geometry.geometry_lowest.Tie as tie

@@ -3,7 +3,8 @@ use mathlib.Core.Path.{_∙_, ap}
 use mathlib.Core.List.{List}
 use Prim.Native.Nat.{ℕ}
 use native.Mathlib.Omega.{arith}
-use Rattle.halls.specs.Inner.Judging.{lowestOf, frontGeometry}
+use Rattle.halls.specs.Fronts.{frontGeometry}
+use Rattle.halls.specs.Inner.Judging.{lowestOf}
 use Rattle.halls.proofs.check.WalkLaws.{geometry-front, geometry-turned, geometry-stops, slice-rest}
 use borrow.Author.Needs.{needs}
 use Rattle.halls.proofs.check.pass.pass_geometry.Statement.{statement}

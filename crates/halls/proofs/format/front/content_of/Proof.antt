@@ -3,9 +3,9 @@ use Prim.Native.Nat.{_≤_}
 use native.Mathlib.Nat.{mul-le-mul}
 use native.Mathlib.Omega.{arith}
 use borrow.Author.Needs.{needs}
-use Rattle.halls.specs.Inner.Judging.{contentAt}
-use Rattle.images.proofs.fronts.content_of.Statement.{statement}
-use Rattle.images.proofs.fronts.content_of.Tie as tie
+use Rattle.halls.specs.Fronts.{contentAt}
+use Rattle.halls.proofs.format.front.content_of.Statement.{statement}
+use Rattle.halls.proofs.format.front.content_of.Tie as tie
 
 returns : tie.Need-returns
 unfolding contentAt

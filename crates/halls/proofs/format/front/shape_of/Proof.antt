@@ -1,9 +1,9 @@
 -- The numbers are those of the definitions.
 use native.Mathlib.Omega.{arith}
 use borrow.Author.Needs.{needs}
-use Rattle.halls.specs.Inner.Judging.{heldAt}
-use Rattle.images.proofs.fronts.shape_of.Statement.{statement}
-use Rattle.images.proofs.fronts.shape_of.Tie as tie
+use Rattle.halls.specs.Fronts.{heldAt}
+use Rattle.halls.proofs.format.front.shape_of.Statement.{statement}
+use Rattle.halls.proofs.format.front.shape_of.Tie as tie
 
 returns : tie.Need-returns
 unfolding heldAt
