@@ -328,6 +328,7 @@ fn the_limit_of_take_in_is_the_halls() {
     );
     assert!(!Path::new(&file).exists());
     printed(&["take-in", "samples/shoebox", "--out", &file, "--limit", "17397"]);
+    assert_eq!(failed(&["check", "samples/shoebox", "--limit", "17396"]), (status, said));
 }
 
 #[test]

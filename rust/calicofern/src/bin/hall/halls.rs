@@ -41,7 +41,7 @@ pub fn check(mut arguments: Arguments) -> Result<String, Failure> {
         What::Hall(bytes) => (hall_in(&name, bytes)?, "is"),
         What::Drawable(drawable) => {
             let sections = drawable.sections();
-            let hall = progress::during("taking in the drawable", || Hall::from_sections(&sections, drawable.at))?;
+            let hall = progress::during("taking in the drawable", || Hall::from_sections_within(&sections, drawable.at, drawable.limit))?;
             (hall, "is a drawable, which taken in is")
         }
     };

@@ -41,8 +41,16 @@ impl Output {
     /// The bytes are on the disc, and the file has its name, when this returns.
     pub fn finish(self) -> Result<(), Failure> {
         let Output { path, place, there, new, out } = self;
-        let done = progress::during(&format!("writing {path} to the disc"), || put(out, new, &place));
-        done.map_err(|error| Failure::Unwritten { path, there, error })
+        let is_device = new.is_none();
+        progress::during(&format!("writing {path} to the disc"), || {
+            put(out, new, &place).map_err(|error| Failure::Unwritten { path: path.clone(), there, error })?;
+            if is_device {
+                return Ok(());
+            }
+            // the new file is in its place; what is left is that its name outlasts a loss of power
+            let synced = File::open(folder_of(&place)).and_then(|folder| folder.sync_all());
+            synced.map_err(|error| Failure::File(format!("{path} is written, but its folder could not be synced"), error))
+        })
     }
 
     /// What a write to it that failed means for the command.
@@ -132,6 +140,5 @@ fn put(out: BufWriter<File>, new: Option<Unfinished>, place: &Path) -> io::Resul
     let file = out.into_inner().map_err(|error| error.into_error())?;
     let Some(new) = new else { return Ok(()) };
     file.sync_all()?;
-    new.put_in_place(place)?;
-    File::open(folder_of(place))?.sync_all()
+    new.put_in_place(place)
 }
