@@ -2,10 +2,11 @@
 use mathlib.Core.Path.{_≡_, refl, sym, ap, _∙_}
 use mathlib.Core.List.{List, [], _∷_, _++_, map, append-assoc}
 use mathlib.Core.Option.{Option, none, some, Option·map, Option·getD}
-use Prim.Native.Nat.{ℕ, zero, suc, _+_, _*_, _-_, _≤_}
+use Prim.Native.Nat.{ℕ, zero, suc, _+_, _*_, _-_, _≤_, _<_}
+use native.Mathlib.Numerals.{add-one}
 use native.Mathlib.Omega.{arith}
-use lib.ListN.{length, take, drop, length-append, take-append-drop}
-use lib.Seq.{drop-nil}
+use lib.ListN.{length, take, drop, getD, length-append, length-drop, take-append-drop}
+use lib.Seq.{take-suc, drop-cons, drop-nil}
 use Rattle.sections.specs.Le.{field}
 use Rattle.vertices.specs.Declaration.{declarationBytes}
 use Rattle.vertices.proofs.DeclarationLaws.{declaration-length}
@@ -14,7 +15,7 @@ use Rattle.halls.specs.Hall.{FullGeometry, FullModel, Hall, listedGeomet
 use Rattle.halls.specs.Inner.HallRecords.{ofKind, geometriesRecords, hallRecords}
 use Rattle.halls.specs.Parsing.{recordsLength}
 use Rattle.halls.specs.Records.{Record, records}
-use Rattle.halls.specs.Inner.Seeking.{placeOf, sought}
+use Rattle.halls.specs.Inner.Seeking.{placeOf, sought, modelEnd}
 use Rattle.halls.specs.Places.{item, modelPlace, geometryPlace, foundModel, foundGeometry}
 use Rattle.halls.specs.declared.check.find.FoundModel.the-variants.{At as ModelAt, Absent as NoModel}
 use Rattle.halls.specs.declared.check.find.FoundGeometry.the-variants.{At as GeometryAt, Absent as NoGeometry}
@@ -80,6 +81,12 @@ place-model (x ∷ h) (suc m) at =
     ∙ past-geometries (x .geometries) (hallRecords h) m (at + 6 + n) ∙ place-model h m (at + 6 + n + recordsLength gs)
     ∙ ap (λ (k : ℕ). Option·map (λ (x : FullModel). k) (item m h)) e
 
+-- the next model stands at the front of the records that are left; where there are none, the bytes end there
+next-model : (h : Hall) (at n : ℕ) → n ≡ at + recordsLength (hallRecords h) → Option·getD (placeOf 1 0 at (hallRecords h)) n ≡ at
+unfolding placeOf hallRecords recordsLength
+next-model [] at n e = e ∙ omega arith
+next-model (x ∷ h) at n e = refl
+
 place-geometry : (gs : List FullGeometry) (ms : Hall) (g at : ℕ)
     → placeOf 2 g at (geometriesRecords gs ++ hallRecords ms) ≡ Option·map (λ (x : FullGeometry). at + recordsLength (geometriesRecords (take g gs))) (item g gs)
 unfolding placeOf geometriesRecords hallRecords recordsLength
@@ -115,32 +122,92 @@ module _ (s : List ℕ) (h : Hall) (same : hallRecords h ≡ records s) (m : ℕ
   unfolding sought
   sought-model = ap (λ (rs : List Record). Option·getD (placeOf 1 m 0 rs) (length s)) (sym same) ∙ ap (λ (o : Option ℕ). Option·getD o (length s)) (place-model h m 0)
 
-  there : {at : ℕ} (x : FullModel) (xs : Hall) → drop m h ≡ x ∷ xs → at ≡ sought s 0 1 m → ModelHere s h m at
+  -- behind the bytes of the models before it
+  there : {at : ℕ} (x : FullModel) (xs : Hall) → drop m h ≡ x ∷ xs → at ≡ length (hallBytes (take m h)) → ModelHere s h m at
   unfolding hallRecords
   there {at} x xs e f =
       let body : List ℕ = modelBody (listedModel x) in
-      let place : at ≡ 0 + recordsLength (hallRecords (take m h)) = f ∙ sought-model ∙ rw e in
+      let place : at ≡ 0 + recordsLength (hallRecords (take m h)) = omega (arith, f, hall-length (take m h)) in
       let parts : hallRecords h ≡ hallRecords (take m h) ++ hallRecords (x ∷ xs) = ap hallRecords (sym (take-append-drop m h)) ∙ hall-append (take m h) (drop m h) ∙ rw e in
       let all : Stand s 0 (hallRecords (take m h) ++ hallRecords (x ∷ xs)) = record { low = omega arith; are = sym same ∙ parts } in
       let here : Stand s at (hallRecords (x ∷ xs)) = rw place (stand-behind s 0 (hallRecords (take m h)) (hallRecords (x ∷ xs)) all) in
       let front = stand-front s at (ofKind 1 body) (geometriesRecords (x .geometries) ++ hallRecords xs) here in
       let l : length body ≡ 6 + 2 * length (x .mapping) = model-body-length x in
       let n : at + (12 + 2 * length (x .mapping)) ≡ at + 6 + length body = omega (arith, l) in
-      record { it = x; others = xs; is = e; place = omega (arith, place, hall-length (take m h)); length-is = front .length-is ∙ l; behind = rw n (front .behind) }
+      record { it = x; others = xs; is = e; place = f; length-is = front .length-is ∙ l; behind = rw n (front .behind) }
+
+  pub model-stands : {at : ℕ} (x : FullModel) → item m h ≡ some x → at ≡ length (hallBytes (take m h)) → ModelHere s h m at
+  model-stands {at} x i f = by (drop m h) refl
+    where
+      by : (l : Hall) → drop m h ≡ l → ModelHere s h m at
+      by [] q = let clash : none ≡ some x = rw q at i in let z : _≡_ {A = ℕ} 0 1 = cc in absurd (omega arith)
+      by (y ∷ ys) q = there y ys q f
+
+  -- where it is sought
+  sought-there : {at : ℕ} (x : FullModel) (xs : Hall) → drop m h ≡ x ∷ xs → at ≡ sought s 0 1 m → ModelHere s h m at
+  sought-there {at} x xs e f =
+      let place : at ≡ 0 + recordsLength (hallRecords (take m h)) = f ∙ sought-model ∙ rw e in
+      there x xs e (omega (arith, place, hall-length (take m h)))
 
   pub no-model : {at : ℕ} → at ≡ sought s 0 1 m → at ≡ length s → item m h ≡ none
   no-model {at} e z = by (drop m h) refl
     where
       by : (l : Hall) → drop m h ≡ l → item m h ≡ none
       by [] q = rw q
-      by (x ∷ xs) q = let w = there x xs q e in absurd (omega (arith, z, w .behind .low))
+      by (x ∷ xs) q = let w = sought-there x xs q e in absurd (omega (arith, z, w .behind .low))
 
   pub model-here : {at : ℕ} → at ≡ sought s 0 1 m → (at ≡ length s → ⊥) → ModelHere s h m at
   model-here {at} e z = by (drop m h) refl
     where
       by : (l : Hall) → drop m h ≡ l → ModelHere s h m at
       by [] q = absurd (z (e ∙ sought-model ∙ rw q))
-      by (x ∷ xs) q = there x xs q e
+      by (x ∷ xs) q = sought-there x xs q e
+
+-- ---- where it ends
+
+module _ {s : List ℕ} {h : Hall} {m at : ℕ} (w : ModelHere s h m at) where
+  abbrev pub start : ℕ
+  start = at + (12 + 2 * length (w .it .mapping))
+
+  -- the record behind the model's
+  pub behind-model : {n : ℕ} → n ≡ field 4 s at → at + 6 + n ≡ start
+  behind-model {n} e = omega (arith, w .length-is)
+
+  abbrev end : ℕ
+  end = start + recordsLength (geometriesRecords (w .it .geometries))
+
+  -- with other models behind it
+  joined-length : (l : Hall) → length (hallBytes (take m h ++ (w .it ∷ l))) ≡ end + recordsLength (hallRecords l)
+  unfolding hallRecords recordsLength
+  joined-length l =
+      let before : Hall = take m h in
+      let gs : List Record = geometriesRecords (w .it .geometries) in
+      let all : recordsLength (hallRecords (before ++ (w .it ∷ l))) ≡ recordsLength (hallRecords before) + recordsLength (hallRecords (w .it ∷ l)) =
+      ap recordsLength (hall-append before (w .it ∷ l)) ∙ records-length-append (hallRecords before) (hallRecords (w .it ∷ l)) in
+      omega (arith, all, records-length-append gs (hallRecords l), hall-length (before ++ (w .it ∷ l)), hall-length before, w .place, model-body-length (w .it))
+
+  -- the models up to it
+  up-to : take (m + 1) h ≡ take m h ++ (w .it ∷ [])
+  up-to =
+      let inside : m < length h = omega (arith, ap length (w .is), length-drop m h) in
+      let parts = drop-cons h m (w .it) inside in
+      let it-is : getD h m (w .it) ≡ w .it = cc in
+      rw (add-one m, take-suc h m (w .it) inside, it-is)
+
+  end-is : length (hallBytes (take (m + 1) h)) ≡ end
+  unfolding hallRecords recordsLength
+  end-is = rw up-to (omega (arith, joined-length []))
+
+  -- all
+  all-length : length (hallBytes h) ≡ end + recordsLength (hallRecords (w .others))
+  all-length = ap (λ (l : Hall). length (hallBytes l)) (sym (take-append-drop m h) ∙ rw (w .is)) ∙ joined-length (w .others)
+
+  -- so the end that is sought is that of its bytes
+  pub model-ends : length (hallBytes h) ≡ length s → modelEnd s at ≡ length (hallBytes (take (m + 1) h))
+  unfolding modelEnd sought
+  model-ends long =
+      let gs : List FullGeometry = w .it .geometries in
+      rw (behind-model refl, w .behind .are, past-geometries gs (hallRecords (w .others)) 0 start) (next-model (w .others) end (length s) (sym long ∙ all-length) ∙ sym end-is)
 
 -- ---- a geometry of it that is found, or none
 
@@ -215,26 +282,19 @@ module _ (s : List ℕ) (h : Hall) (same : hallRecords h ≡ records s) (m : ℕ
   without-model g z = rw (no-model s h same m e z)
 
 module _ {s : List ℕ} {h : Hall} {m at : ℕ} (w : ModelHere s h m at) (g : ℕ) where
-  abbrev start : ℕ
-  start = at + (12 + 2 * length (w .it .mapping))
-
   abbrev pub GeometryOf : ℕ → Type 0
-  GeometryOf place = GeometryHere s start (w .it .geometries) g place
-
-  -- the record behind the model's
-  pub behind-model : {n : ℕ} → n ≡ field 4 s at → at + 6 + n ≡ start
-  behind-model {n} e = omega (arith, w .length-is)
+  GeometryOf place = GeometryHere s (start w) (w .it .geometries) g place
 
   module _ {n place : ℕ} (e : n ≡ field 4 s at) (f : place ≡ sought s (at + 6 + n) 2 g) where
-    from-start : place ≡ sought s start 2 g
-    from-start = f ∙ ap (λ (k : ℕ). sought s k 2 g) (behind-model e)
+    from-start : place ≡ sought s (start w) 2 g
+    from-start = f ∙ ap (λ (k : ℕ). sought s k 2 g) (behind-model w e)
 
     pub geometry-absent : place ≡ length s → NoGeometry ≡ foundGeometry (geometryPlace h m g)
     unfolding geometryPlace
-    geometry-absent z = rw (w .is, no-geometry s start (w .it .geometries) (w .others) (w .behind) g from-start z)
+    geometry-absent z = rw (w .is, no-geometry s (start w) (w .it .geometries) (w .others) (w .behind) g from-start z)
 
     pub geometry-stands : (place ≡ length s → ⊥) → GeometryOf place
-    geometry-stands z = geometry-here s start (w .it .geometries) (w .others) (w .behind) g from-start z
+    geometry-stands z = geometry-here s (start w) (w .it .geometries) (w .others) (w .behind) g from-start z
 
   pub geometry-found : {place n : ℕ} → GeometryOf place → n ≡ field 4 s (place + 42)
       → GeometryAt (record { model = at; geometry = place; declaration = place + 20; vertices = place + 42; indices = place + 42 + 6 + n }) ≡ foundGeometry (geometryPlace h m g)

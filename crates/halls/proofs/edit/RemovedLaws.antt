@@ -2,16 +2,12 @@
 use mathlib.Core.Path.{_≡_, refl, sym, ap, _∙_, subst}
 use mathlib.Core.List.{List, _++_}
 use mathlib.Core.Option.{Option, none, some}
-use Prim.Native.Nat.{ℕ, suc, _+_, _-_, _≤_, _<_}
+use Prim.Native.Nat.{ℕ, suc, _+_, _-_, _≤_}
 use native.Mathlib.Numerals.{add-one}
 use native.Mathlib.Omega.{arith}
-use borrow.Author.Tests.{leb-true}
-use lib.Dec.{leb}
 use lib.ListN.{length, take, drop, length-append, take-append-drop}
 use lib.Seq.{take-take, take-at, drop-at}
-use Rattle.sections.proofs.AddressLaws.{both-true}
 use Rattle.halls.specs.Calls.{removeModel, proposed, without}
-use Rattle.halls.specs.Checks.{geometryCount, countsWithinLimits}
 use Rattle.halls.specs.Hall.{FullModel, Hall, hallBytes}
 use Rattle.halls.specs.Places.{item, modelPlace, foundModel}
 use Rattle.halls.specs.Reading.{read}
@@ -20,8 +16,7 @@ use Rattle.halls.specs.Step.{stateIn, rewritten, Stepped}
 use Rattle.halls.specs.declared.answer.Answer.{Answer}
 use Rattle.halls.specs.declared.answer.Answer.the-variants.{Accepted, Refused}
 use Rattle.halls.specs.declared.check.find.FoundModel.the-variants.{At, Absent}
-use Rattle.halls.proofs.edit.SoundEdits.{item-within, take-past, state-item, hall-without, hall-bytes-append, sound-without}
-use Rattle.halls.proofs.SoundLaws.{verdict-sound}
+use Rattle.halls.proofs.edit.SoundEdits.{state-item, hall-without, hall-bytes-append, sound-without}
 use Rattle.halls.proofs.edit.StepLaws.{hallIn, Old, stays-barred, becomes-new}
 
 -- ---- what the finder says
@@ -48,10 +43,6 @@ module _ (h : Hall) (m : ℕ) where
       by none q = let clash : Absent ≡ At place = rw q at e in let z : _≡_ {A = ℕ} 0 1 = cc in absurd (omega arith)
       by (some x) q = let same : At (length (hallBytes (take m h))) ≡ At place = rw q at e in record { it = x; is = q; begins = cc }
 
-  -- a model ends where the next one begins, or with the list
-  pub end-of-list : foundModel (modelPlace h m) ≡ Absent → length (hallBytes (take m h)) ≡ length (hallBytes h)
-  end-of-list e = ap (λ (x : Hall). length (hallBytes x)) (take-past m h (model-none e))
-
 -- ---- the hall's bytes before a model, and from one on
 
 parted : (h : Hall) (m : ℕ) → hallBytes h ≡ hallBytes (take m h) ++ hallBytes (drop m h)
@@ -60,13 +51,6 @@ parted h m = ap hallBytes (sym (take-append-drop m h)) ∙ hall-bytes-append (ta
 -- ---- the call
 
 module _ (b : List ℕ) (n : ℕ) (o : Old b n) (m : ℕ) where
-  pub few-models : (x : FullModel) → item m (hallIn b n) ≡ some x → m < 256
-  unfolding countsWithinLimits
-  few-models x e =
-      let h : Hall = hallIn b n in
-      let c = both-true (leb (length h) 256) (leb (geometryCount h) 16384) (verdict-sound h (o .sound) .counts) in
-      omega (arith, leb-true (length h) 256 (c .0), item-within m h x e)
-
   pub removed-none : (r : Answer) → foundModel (modelPlace (hallIn b n) m) ≡ Absent → r ≡ Refused (record { check = 21; needed = 0 }) → Stepped (removeModel m) b n r b
   unfolding proposed
   removed-none r e f =

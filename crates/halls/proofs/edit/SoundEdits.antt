@@ -32,12 +32,6 @@ module _ {A : Type 0} where
   split-item zero (y ∷ ys) x e = let same : y ≡ x = cc in ap (λ (a : A). a ∷ ys) same
   split-item (suc i) (y ∷ ys) x e = ap (λ (l : List A). y ∷ l) (split-item i ys x e)
 
-  pub take-past : (i : ℕ) (xs : List A) → item i xs ≡ none → take i xs ≡ xs
-  take-past zero [] e = refl
-  take-past (suc i) [] e = refl
-  take-past zero (x ∷ xs) e = let z : _≡_ {A = ℕ} 0 1 = cc in absurd (omega arith)
-  take-past (suc i) (x ∷ xs) e = ap (λ (l : List A). x ∷ l) (take-past i xs e)
-
   -- it stands within the list
   pub item-within : (i : ℕ) (xs : List A) (x : A) → item i xs ≡ some x → suc i ≤ length xs
   item-within zero [] x e = let z : _≡_ {A = ℕ} 0 1 = cc in absurd (omega arith)

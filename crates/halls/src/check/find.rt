@@ -1,12 +1,13 @@
 // Where the records of a hall's list begin.
 ghost use mathlib.Core.Path.{_≡_};
-ghost use Prim.Native.Nat.{_^_, _≤_, _<_};
+ghost use Prim.Native.Nat.{_+_, _≤_};
 ghost use lib.ListN.{length};
+ghost use Rattle.sections.specs.Le.{field};
 ghost use Rattle.halls.specs.Inner.HallRecords.{hallRecords};
 ghost use Rattle.halls.specs.Parsing.{modelsIn};
 ghost use Rattle.halls.specs.Places.{modelPlace, geometryPlace, foundModel, foundGeometry, modelFound, geometryFound};
 ghost use Rattle.halls.specs.Records.{records};
-ghost use Rattle.halls.specs.Inner.Seeking.{sought};
+ghost use Rattle.halls.specs.Inner.Seeking.{sought, modelEnd};
 use crate::check::check::Verdict;
 use crate::check::check::hall_check;
 use sections::u16_le;
@@ -88,39 +89,41 @@ pub fn geometry_at(list: &[u8], model: u64, geometry: u64) -> FoundGeometry
     })
 }
 
+// Where the model ends whose record begins at `place`: at the next model's record, or with the list.
+pub fn model_end(list: &[u8], place: usize) -> usize
+    requires { ⌜ place + 6 + field 4 (now list) place ≤ length (now list) ⌝ }
+    ensures { λ r. ⌜ r ≡ modelEnd (now (list .entry)) place ⌝ }
+{
+    seek(list, place + 6 + u32_le(list, place) as usize, 1, 0)
+}
+
 // From the record on that begins at `at`: the place of the record of this kind with `skip` of its kind before it, the
 // list's length where there is none. A model's record ends the search for another kind.
 fn seek(list: &[u8], at: usize, kind: u16, skip: u64) -> usize
     requires { ⌜ at ≤ length (now list) ⌝ }
     ensures { λ r. ⌜ r ≡ sought (now (list .entry)) at kind skip ⌝ }
 {
-    seek_on(&list, at, kind, skip)
-}
-
-// One record is skipped, and the rest searched. Behind two references the list is one address, which a call can hand on
-// without stack of its own: the compiled code is a loop.
-fn seek_on(bytes: &&[u8], at: usize, kind: u16, skip: u64) -> usize
-    requires { ⌜ (at ≤ length (now (now bytes))) × (length (now (now bytes)) < 2 ^ 64) ⌝ }
-    ensures { λ r. ⌜ r ≡ sought (now (now (bytes .entry))) at kind skip ⌝ }
-{
-    let list = *bytes;
-    if list.len() - at < 6 {
-        return list.len();
-    }
-    let start = at + 6;
-    let length = u32_le(list, at) as usize;
-    if list.len() - start < length {
-        return list.len();
-    }
-    let found = u16_le(list, at + 4);
-    if found == kind {
-        if skip == 0 {
-            return at;
+    let mut place = at;
+    let mut left = skip;
+    while 6 <= list.len() - place {
+        let start = place + 6;
+        let length = u32_le(list, place) as usize;
+        if list.len() - start < length {
+            return list.len();
         }
-        return seek_on(bytes, start + length, kind, skip - 1);
+        let found = u16_le(list, place + 4);
+        if found == kind {
+            if left == 0 {
+                return place;
+            }
+            left -= 1;
+            place = start + length;
+            continue;
+        }
+        if found == 1 {
+            return list.len();
+        }
+        place = start + length;
     }
-    if found == 1 {
-        return list.len();
-    }
-    seek_on(bytes, start + length, kind, skip)
+    list.len()
 }

@@ -2,12 +2,10 @@
 ghost use mathlib.Core.Path.{_≡_};
 ghost use mathlib.Core.List.{_++_};
 ghost use mathlib.Core.Option.{some};
-ghost use Prim.Native.Nat.{_+_, _≤_, _<_};
+ghost use Prim.Native.Nat.{_≤_};
 ghost use lib.ListN.{length, take, drop};
 ghost use Rattle.halls.specs.Calls.{removeModel, removeGeometry};
 ghost use Rattle.halls.specs.Checks.{hallVerdict};
-ghost use Rattle.halls.specs.Hall.{hallBytes};
-ghost use Rattle.halls.specs.Inner.HallRecords.{hallRecords};
 ghost use Rattle.halls.specs.Parsing.{modelsIn};
 ghost use Rattle.halls.specs.Places.{geometryPlace};
 ghost use Rattle.halls.specs.Records.{records};
@@ -21,6 +19,7 @@ use crate::check::find::FoundModel;
 use crate::check::find::GeometryPlace;
 use crate::check::find::geometry_at;
 use crate::check::find::model_at;
+use crate::check::find::model_end;
 use sections::copy_within;
 use sections::put_u32_le;
 use sections::u32_le;
@@ -45,21 +44,10 @@ fn remove_model_in_hall(hall: &mut [u8], n: usize, model: u64) -> Answer
     match model_at(&hall[..n], model) {
         FoundModel::Absent => refused(21, 0),
         FoundModel::At(place) => {
-            let end = model_end(&hall[..n], model);
+            let end = model_end(&hall[..n], place);
             close_gap(hall, n, place, end);
             Answer::Accepted((n - (end - place)) as u64)
         }
-    }
-}
-
-// Where the m-th model ends in a list that is a hall's: at the next one's record, or with the list.
-fn model_end(list: &[u8], model: u64) -> usize
-    requires { ⌜ (hallRecords (modelsIn (records (now list))) ≡ records (now list)) × (length (hallBytes (modelsIn (records (now list)))) ≡ length (now list)) × (model < 256) ⌝ }
-    ensures { λ r. ⌜ r ≡ length (hallBytes (take (model + 1) (modelsIn (records (now (list .entry)))))) ⌝ }
-{
-    match model_at(list, model + 1) {
-        FoundModel::Absent => list.len(),
-        FoundModel::At(place) => place,
     }
 }
 

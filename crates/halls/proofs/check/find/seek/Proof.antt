@@ -1,0 +1,75 @@
+-- Each turn passes one record: what is sought from the place reached is what is sought from `at`.
+use mathlib.Core.Path.{_≡_, refl, _∙_}
+use Prim.Native.Nat.{_-_, _≤_}
+use native.Mathlib.Omega.{arith}
+use borrow.Author.Needs.{needs}
+use lib.ListN.{length}
+use Rattle.halls.specs.Inner.Seeking.{sought}
+use Rattle.halls.proofs.check.SeekLaws.{sought-end, sought-broken, sought-here, sought-next, sought-ended, sought-past}
+use Rattle.halls.proofs.check.find.seek.Statement.{statement}
+use Rattle.halls.proofs.check.find.seek.Tie as tie
+
+abbrev Inv-loop : tie.InvT-loop
+Inv-loop list at kind skip place₀ left₀ place left = (place ≤ length list) × (sought list place kind left ≡ sought list at kind skip)
+
+abbrev μ-loop : tie.MeasureT-loop
+μ-loop list at kind skip place₀ left₀ place left = length list - place
+
+body-outside : tie.Need-returns Inv-loop μ-loop
+body-outside c =
+    let turn = c .before .before .before in
+    sought-broken _ _ _ _ (omega arith) (c .before .u32-le .ensures) (omega arith) ∙ turn .loop .inv .1
+
+found-here : tie.Need-returns-2 Inv-loop μ-loop
+found-here c =
+    let kind = c .before .before in
+    let length = kind .before .before in
+    let turn = length .before .before in
+    sought-here _ _ _ _ (length .u32-le .ensures) (omega arith) (kind .u16-le .ensures) (c .before .if2 .taken) (c .if3 .taken) ∙ turn .loop .inv .1
+
+one-fewer-left : tie.Need-loop-again Inv-loop μ-loop
+one-fewer-left c =
+    let kind = c .before .before in
+    let length = kind .before .before in
+    let turn = length .before .before in
+    (omega arith, sought-next _ _ _ _ (length .u32-le .ensures) (omega arith) (kind .u16-le .ensures) (c .before .if2 .taken) (c .if3 .left) ∙ turn .loop .inv .1)
+
+model-ends-search : tie.Need-returns-3 Inv-loop μ-loop
+model-ends-search c =
+    let kind = c .before .before in
+    let length = kind .before .before in
+    let turn = length .before .before in
+    sought-ended _ _ _ _ (length .u32-le .ensures) (omega arith) (kind .u16-le .ensures) (c .before .if2 .left) (c .if4 .taken) ∙ turn .loop .inv .1
+
+record-passed : tie.Need-loop-again-2 Inv-loop μ-loop
+record-passed c =
+    let kind = c .before .before in
+    let length = kind .before .before in
+    let turn = length .before .before in
+    (omega arith, sought-past _ _ _ _ (length .u32-le .ensures) (omega arith) (kind .u16-le .ensures) (c .before .if2 .left) (c .if4 .left) ∙ turn .loop .inv .1)
+
+pub seek-spec : {M : Type 1} → statement M
+seek-spec =
+    tie.close
+    (tie.spec
+    Inv-loop
+    μ-loop
+    (λ c. (omega arith, refl))
+    (λ c. omega arith)
+    (λ c. omega arith)
+    (λ c κs. search needs)
+    (λ c. search needs)
+    (λ c. omega arith)
+    body-outside
+    (λ c. omega arith)
+    (λ c κs. search needs)
+    found-here
+    (λ c. omega arith)
+    (λ c. omega arith)
+    (λ c. omega arith)
+    one-fewer-left
+    model-ends-search
+    (λ c. omega arith)
+    (λ c. omega arith)
+    record-passed
+    (λ c. sought-end _ _ _ _ (omega arith) ∙ c .before .loop .inv .1))
