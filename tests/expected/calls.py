@@ -434,6 +434,40 @@ def finder_rows():
             find_geometry(buffer, n, n, 0, huge)
 
 
+# as many models and geometries as check 13 allows: all geometries are one model's, and the others have none
+CROWDED = (model(0),) * 128 + (model(0, *[geometry(0, 3, 1, 1, 2)] * 16384),) + (model(0),) * 127
+
+
+def repeated(at, count, piece):
+    """Runs that put these bytes `count` times, one behind the other: eight bytes of them at a time, the last eight where they end."""
+    offsets = [*range(0, len(piece) - 8, 8), len(piece) - 8]
+    return b"".join(struct.pack("<3Q", at + offset, len(piece), count) + piece[offset : offset + 8] for offset in offsets)
+
+
+def crowded_row(kind, name, runs, numbers, found):
+    n = book.length_of(CROWDED)
+    line = " absent" if found is None else " at" + hexed(*found)
+    rows[packed_with(kind, [n, n, *numbers, *[0] * (2 - len(numbers)), len(runs) // 32], runs)] = name + hexed(n, n, *numbers) + ":" + line
+
+
+def crowded_rows():
+    """Every search from the front passes all records before what it finds: 65,791 before the last model's."""
+    lent, item = book.written(CROWDED), book.geometry_length(CROWDED[128].geometries[0])
+    # where the model with the geometries begins, its first geometry, and the model behind it
+    full = 128 * 12
+    first = full + book.model_length(CROWDED[128])
+    behind = first + 16384 * item
+    pieces = [(0, 128, 12), (full, 1, 12), (first, 16384, item), (behind, 127, 12)]
+    runs = b"".join(repeated(at, count, lent[at : at + length]) for at, count, length in pieces)
+    # its mapping is zeros, which no run puts
+    assert not any(lent[full + 12 : first]) and checks.lowest(book.listed_hall(CROWDED)) == 0
+    for number in [0, 127, 128, 129, 254, 255, 256]:
+        place = book.model_place(CROWDED, number)
+        crowded_row(13, "crowded find model", runs, [number], None if place is None else [place])
+    for number, place in [(128, 0), (128, 16383), (128, 16384), (127, 0), (129, 0), (255, 0), (256, 0)]:
+        crowded_row(14, "crowded find geometry", runs, [number, place], book.geometry_places(CROWDED, number, place))
+
+
 def random_call(pick, buffer, n, room):
     """Mostly about things that are there; one beyond the last is asked for too."""
     hall = book.held_hall(buffer, n)
@@ -472,6 +506,6 @@ def chain_rows():
 
 def call_rows():
     """The rows, and the lines that they must print."""
-    for make in [add_rows, given_rows, many_rows, removal_rows, type_rows, attribute_rows, index_rows, unsound_rows, finder_rows, chain_rows]:
+    for make in [add_rows, given_rows, many_rows, removal_rows, type_rows, attribute_rows, index_rows, unsound_rows, finder_rows, crowded_rows, chain_rows]:
         make()
     return list(rows), list(rows.values())

@@ -1,4 +1,4 @@
-// Buffers for lists, and sections that are longer than a row.
+// Buffers for lists, and sections and halls that are longer than a row.
 ghost use mathlib.Core.Path.{_≡_};
 ghost use lib.ListN.{length};
 use sections::put_u64_le;
@@ -35,11 +35,23 @@ pub fn long_section(data: &[u8], runs: usize) -> [u8; 589824]
     ensures { λ r. ⌜ length r ≡ 589824 ⌝ }
 {
     let mut b = zeros();
-    if runs < 100 {
-        sections::copy_into(&mut b, 0, rest(data, runs * 32));
-        put_runs(&mut b, first(data, runs * 32));
-    }
+    put_row(&mut b, data, runs);
     b
+}
+
+// Room for a hall of as many models and geometries as check 13 allows.
+pub fn hall_zeros() -> [u8; 1494016]
+    ensures { λ r. ⌜ length r ≡ 1494016 ⌝ }
+{
+    [0; 1494016]
+}
+
+// What a row's bytes say, over zeros.
+pub fn put_row(b: &mut [u8], data: &[u8], runs: usize) {
+    if runs < 100 {
+        sections::copy_into(b, 0, rest(data, runs * 32));
+        put_runs(b, first(data, runs * 32));
+    }
 }
 
 fn put_runs(b: &mut [u8], data: &[u8]) {

@@ -1,21 +1,17 @@
-// Rows about the calls that change a hall and about its finders. The first a bytes of the b lent, at most 4,096, are the hall.
+// Rows about the calls that change a hall. The first a bytes of the b lent, at most 4,096, are the hall.
 // A row's bytes are further arguments, 32 but for an added geometry, then how the buffer begins; a pattern follows.
 use crate::buffers::list_buffer;
-use halls::FoundGeometry;
-use halls::FoundModel;
-use halls::GeometryPlace;
 use replay::answered;
 use replay::called_first;
 use sections::u64_le;
 use testing::Row;
 use testing::bytes;
 use testing::first;
-use testing::number;
 use testing::numbers;
 use testing::rest;
 use testing::text;
 
-fn hall_buffer(data: &[u8], at: usize) -> [u8; 4096] {
+pub fn hall_buffer(data: &[u8], at: usize) -> [u8; 4096] {
     let mut b = list_buffer();
     sections::copy_into(&mut b, 0, rest(data, at));
     b
@@ -82,40 +78,4 @@ pub fn replace_indices_row(row: Row, data: &[u8]) {
     bytes(first(data, 32));
     text(b":");
     call_row(row, data);
-}
-
-// find_model, of model c.
-pub fn find_model_row(row: Row, data: &[u8]) {
-    let b = hall_buffer(data, 32);
-    text(b"find model");
-    numbers(row, 3);
-    match halls::find_model(first(&b, row.b as usize), row.a as usize, row.c) {
-        FoundModel::At(place) => {
-            text(b" at");
-            number(place as u64);
-        }
-        FoundModel::Absent => text(b" absent"),
-    }
-    text(b"\n");
-}
-
-fn places(p: GeometryPlace) {
-    text(b" at");
-    number(p.model as u64);
-    number(p.geometry as u64);
-    number(p.declaration as u64);
-    number(p.vertices as u64);
-    number(p.indices as u64);
-}
-
-// find_geometry, of geometry d of model c.
-pub fn find_geometry_row(row: Row, data: &[u8]) {
-    let b = hall_buffer(data, 32);
-    text(b"find geometry");
-    numbers(row, 4);
-    match halls::find_geometry(first(&b, row.b as usize), row.a as usize, row.c, row.d) {
-        FoundGeometry::At(p) => places(p),
-        FoundGeometry::Absent => text(b" absent"),
-    }
-    text(b"\n");
 }

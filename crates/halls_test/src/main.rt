@@ -1,10 +1,11 @@
-// Reads the drawables of standard input through the crate `halls`, checks its halls, makes its calls, and prints a line for each: what
-// was asked, in hexadecimal, and what was answered; of a drawable or a call also the buffer's checksum and a short list's bytes.
-// tests/expected/halls.py makes the drawables, the halls, the calls and the lines.
+// Reads the drawables of standard input through the crate `halls`, checks its halls, makes its calls and finds what is in them, and prints
+// a line for each: what was asked, in hexadecimal, and what was answered; of a drawable or a call also the buffer's checksum and a short
+// list's bytes. tests/expected/halls.py makes the drawables, the halls, the calls and the lines.
 mod buffers;
 mod calls;
 mod checks;
 mod drawables;
+mod finds;
 
 use libc::STDIN_FILENO;
 use testing::Row;
@@ -24,10 +25,12 @@ fn run(row: Row, data: &[u8]) {
         6 => calls::remove_model_row(row, data),
         7 => calls::remove_geometry_row(row, data),
         8 => calls::set_attribute_row(row, data),
-        9 => calls::find_model_row(row, data),
-        10 => calls::find_geometry_row(row, data),
+        9 => finds::find_model_row(row, data),
+        10 => finds::find_geometry_row(row, data),
         11 => calls::replace_indices_row(row, data),
         12 => calls::add_geometry_row(row, data),
+        13 => finds::crowded_model_row(row, data),
+        14 => finds::crowded_geometry_row(row, data),
         _ => testing::text(b"unknown row\n"),
     }
 }

@@ -1,6 +1,8 @@
-//! The limits of checks 13, 16, 18 and 19, on lists that are longer than the rows of crates/halls_test.
+//! The limits of checks 13, 16, 18 and 19, on lists that are longer than the rows of crates/halls_test, and calls on the hall with the most records.
 
-use calicofern::hall_check;
+use std::thread;
+
+use calicofern::{Hall, Refusal, VertexAttributeValue, VertexSemantic, hall_check};
 
 /// Document 01: the most bytes of an image.
 const IMAGE_LIMIT: u64 = 67_108_864;
@@ -104,9 +106,13 @@ fn image_size(models: &[Vec<Geometry>]) -> u64 {
     size
 }
 
-/// The number of the check that a list fails, or 0.
+/// The number of the check that refused, or 0.
+fn number(answer: Result<(), Refusal>) -> u8 {
+    answer.map_or_else(|refusal| refusal.number(), |()| 0)
+}
+
 fn failed(list: &[u8]) -> u8 {
-    hall_check(list).map_or_else(|refusal| refusal.number(), |()| 0)
+    number(hall_check(list))
 }
 
 fn check(models: &[Vec<Geometry>]) -> u8 {
@@ -229,4 +235,27 @@ fn an_image_of_twice_the_limit() {
     assert_eq!(check(&[vec![large]]), 0);
     assert_eq!(check(&[vec![large, large]]), 19);
     assert_eq!(check(&[vec![large], vec![large]]), 19);
+}
+
+/// Sets, replaces and removes at the first and the last place of a hall of 256 models of 64 geometries, and looks for what is behind them.
+fn find_in(mut hall: Hall) {
+    let value = VertexAttributeValue::Half2([1.0, 2.0]);
+    for (model, geometry, expected) in [(0, 0, 0), (0, 63, 0), (0, 64, 21), (255, 0, 0), (255, 63, 0), (255, 64, 21), (256, 0, 21)] {
+        assert_eq!(number(hall.set_attribute(model, geometry, 0, VertexSemantic::Position, value)), expected, "{model} {geometry}");
+        assert_eq!(number(hall.replace_indices(model, geometry, &[0, 0, 0])), expected, "{model} {geometry}");
+    }
+    assert_eq!(number(hall.remove_geometry(255, 64)), 21);
+    assert_eq!(number(hall.remove_geometry(255, 63)), 0);
+    assert_eq!(number(hall.remove_model(256)), 21);
+    assert_eq!(number(hall.remove_model(255)), 0);
+    assert_eq!(number(hall.remove_model(0)), 0);
+    assert!(hall.list() == list_of(&vec![vec![Geometry::SMALL; 64]; 254]));
+}
+
+/// The last model's record has 65,535 others before it: what a call needs of the stack must not grow with them.
+#[test]
+fn the_fullest_hall_on_a_small_stack() {
+    let hall = Hall::from_list(list_of(&vec![vec![Geometry::SMALL; 64]; 256])).unwrap();
+    let small = thread::Builder::new().stack_size(64 * 1024);
+    small.spawn(move || find_in(hall)).unwrap().join().unwrap();
 }
