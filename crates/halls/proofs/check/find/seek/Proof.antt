@@ -15,6 +15,13 @@ Inv-loop list at kind skip place₀ left₀ place left = (place ≤ length list)
 abbrev μ-loop : tie.MeasureT-loop
 μ-loop list at kind skip place₀ left₀ place left = length list - place
 
+-- the place moves on, so that the search ends
+behind-found : tie.Need-loop-less Inv-loop μ-loop
+behind-found c = omega arith
+
+behind-passed : tie.Need-loop-less-2 Inv-loop μ-loop
+behind-passed c = omega arith
+
 body-outside : tie.Need-returns Inv-loop μ-loop
 body-outside c =
     let turn = c .before .before .before in
@@ -66,10 +73,10 @@ seek-spec =
     found-here
     (λ c. omega arith)
     (λ c. omega arith)
-    (λ c. omega arith)
+    behind-found
     one-fewer-left
     model-ends-search
     (λ c. omega arith)
-    (λ c. omega arith)
+    behind-passed
     record-passed
     (λ c. sought-end _ _ _ _ (omega arith) ∙ c .before .loop .inv .1))
