@@ -23,37 +23,37 @@ behind-passed : tie.Need-loop-less-2 Inv-loop μ-loop
 behind-passed c = omega arith
 
 body-outside : tie.Need-returns Inv-loop μ-loop
-body-outside c =
-    let turn = c .before .before .before in
-    sought-broken _ _ _ _ (omega arith) (c .before .u32-le .ensures) (omega arith) ∙ turn .loop .inv .1
+body-outside c = sought-broken _ _ _ _ (omega arith) (c .before .u32-le .ensures) (omega arith) ∙ c .before .before .before .loop .inv .1
+
+-- a record that stands whole in the bytes, and whose kind is read
+abbrev Whole : Type 0
+Whole = tie.After-u16-le Inv-loop μ-loop
+
+abbrev at-length : Whole → tie.After-u32-le Inv-loop μ-loop
+at-length c = c .before .before
+
+abbrev at-turn : Whole → tie.At-loop Inv-loop μ-loop
+at-turn c = at-length c .before .before
 
 found-here : tie.Need-returns-2 Inv-loop μ-loop
 found-here c =
-    let kind = c .before .before in
-    let length = kind .before .before in
-    let turn = length .before .before in
-    sought-here _ _ _ _ (length .u32-le .ensures) (omega arith) (kind .u16-le .ensures) (c .before .if2 .taken) (c .if3 .taken) ∙ turn .loop .inv .1
+    let whole = c .before .before in
+    sought-here _ _ _ _ (at-length whole .u32-le .ensures) (omega arith) (whole .u16-le .ensures) (c .before .if2 .taken) (c .if3 .taken) ∙ at-turn whole .loop .inv .1
 
 one-fewer-left : tie.Need-loop-again Inv-loop μ-loop
 one-fewer-left c =
-    let kind = c .before .before in
-    let length = kind .before .before in
-    let turn = length .before .before in
-    (omega arith, sought-next _ _ _ _ (length .u32-le .ensures) (omega arith) (kind .u16-le .ensures) (c .before .if2 .taken) (c .if3 .left) ∙ turn .loop .inv .1)
+    let whole = c .before .before in
+    (omega arith, sought-next _ _ _ _ (at-length whole .u32-le .ensures) (omega arith) (whole .u16-le .ensures) (c .before .if2 .taken) (c .if3 .left) ∙ at-turn whole .loop .inv .1)
 
 model-ends-search : tie.Need-returns-3 Inv-loop μ-loop
 model-ends-search c =
-    let kind = c .before .before in
-    let length = kind .before .before in
-    let turn = length .before .before in
-    sought-ended _ _ _ _ (length .u32-le .ensures) (omega arith) (kind .u16-le .ensures) (c .before .if2 .left) (c .if4 .taken) ∙ turn .loop .inv .1
+    let whole = c .before .before in
+    sought-ended _ _ _ _ (at-length whole .u32-le .ensures) (omega arith) (whole .u16-le .ensures) (c .before .if2 .left) (c .if4 .taken) ∙ at-turn whole .loop .inv .1
 
 record-passed : tie.Need-loop-again-2 Inv-loop μ-loop
 record-passed c =
-    let kind = c .before .before in
-    let length = kind .before .before in
-    let turn = length .before .before in
-    (omega arith, sought-past _ _ _ _ (length .u32-le .ensures) (omega arith) (kind .u16-le .ensures) (c .before .if2 .left) (c .if4 .left) ∙ turn .loop .inv .1)
+    let whole = c .before .before in
+    (omega arith, sought-past _ _ _ _ (at-length whole .u32-le .ensures) (omega arith) (whole .u16-le .ensures) (c .before .if2 .left) (c .if4 .left) ∙ at-turn whole .loop .inv .1)
 
 pub seek-spec : {M : Type 1} → statement M
 seek-spec =
