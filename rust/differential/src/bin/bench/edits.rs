@@ -56,9 +56,9 @@ pub fn bench_saves(bench: &Bench) {
     if bench.rounds > 0 {
         println!();
         println!(
-            "| work | hall bytes | image bytes | Rattle ms | check ms | memcpy ms | without the check, of memcpy: least, median | goal |"
+            "| work | hall bytes | image bytes | Rattle ms | check ms | memcpy ms | indices halved ms | without the check, of memcpy: least, median | goal |"
         );
-        println!("|---|---|---|---|---|---|---|---|");
+        println!("|---|---|---|---|---|---|---|---|---|");
     }
     for (size, models, geometries, vertices, triangles) in SIZES {
         let name = format!("save, {size}");
