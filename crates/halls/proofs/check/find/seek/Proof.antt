@@ -1,6 +1,6 @@
 -- Each turn passes one record: what is sought from the place reached is what is sought from `at`.
 use mathlib.Core.Path.{_≡_, refl, _∙_}
-use Prim.Native.Nat.{_-_, _≤_}
+use Prim.Native.Nat.{ℕ, _-_, _≤_}
 use native.Mathlib.Omega.{arith}
 use borrow.Author.Needs.{needs}
 use lib.ListN.{length}
@@ -35,25 +35,29 @@ at-length c = c .before .before
 abbrev at-turn : Whole → tie.At-loop Inv-loop μ-loop
 at-turn c = at-length c .before .before
 
+-- the kind that is sought
+abbrev kind : Whole → ℕ
+kind c = at-turn c .before .before .args .kind
+
 found-here : tie.Need-returns-2 Inv-loop μ-loop
 found-here c =
     let whole = c .before .before in
-    sought-here _ _ _ _ (at-length whole .u32-le .ensures) (omega arith) (whole .u16-le .ensures) (c .before .if2 .taken) (c .if3 .taken) ∙ at-turn whole .loop .inv .1
+    sought-here _ _ (kind whole) _ (at-length whole .u32-le .ensures) (omega arith) (whole .u16-le .ensures) (c .before .if2 .taken) (c .if3 .taken) ∙ at-turn whole .loop .inv .1
 
 one-fewer-left : tie.Need-loop-again Inv-loop μ-loop
 one-fewer-left c =
     let whole = c .before .before in
-    (omega arith, sought-next _ _ _ _ (at-length whole .u32-le .ensures) (omega arith) (whole .u16-le .ensures) (c .before .if2 .taken) (c .if3 .left) ∙ at-turn whole .loop .inv .1)
+    (omega arith, sought-next _ _ (kind whole) _ (at-length whole .u32-le .ensures) (omega arith) (whole .u16-le .ensures) (c .before .if2 .taken) (c .if3 .left) ∙ at-turn whole .loop .inv .1)
 
 model-ends-search : tie.Need-returns-3 Inv-loop μ-loop
 model-ends-search c =
     let whole = c .before .before in
-    sought-ended _ _ _ _ (at-length whole .u32-le .ensures) (omega arith) (whole .u16-le .ensures) (c .before .if2 .left) (c .if4 .taken) ∙ at-turn whole .loop .inv .1
+    sought-ended _ _ (kind whole) _ (at-length whole .u32-le .ensures) (omega arith) (whole .u16-le .ensures) (c .before .if2 .left) (c .if4 .taken) ∙ at-turn whole .loop .inv .1
 
 record-passed : tie.Need-loop-again-2 Inv-loop μ-loop
 record-passed c =
     let whole = c .before .before in
-    (omega arith, sought-past _ _ _ _ (at-length whole .u32-le .ensures) (omega arith) (whole .u16-le .ensures) (c .before .if2 .left) (c .if4 .left) ∙ at-turn whole .loop .inv .1)
+    (omega arith, sought-past _ _ (kind whole) _ (at-length whole .u32-le .ensures) (omega arith) (whole .u16-le .ensures) (c .before .if2 .left) (c .if4 .left) ∙ at-turn whole .loop .inv .1)
 
 pub seek-spec : {M : Type 1} → statement M
 seek-spec =
