@@ -237,7 +237,7 @@ fn an_image_of_twice_the_limit() {
     assert_eq!(check(&[vec![large], vec![large]]), 19);
 }
 
-/// Sets, replaces, removes and adds at the first and the last place of a hall of 256 models of 64 geometries, and looks for what is behind them.
+/// Sets, replaces and removes at the first and the last place of a hall of 256 models of 64 geometries, adds at its end, and looks for what is behind.
 fn find_in(mut hall: Hall) {
     let value = VertexAttributeValue::Half2([1.0, 2.0]);
     for (model, geometry, expected) in [(0, 0, 0), (0, 63, 0), (0, 64, 21), (255, 0, 0), (255, 63, 0), (255, 64, 21), (256, 0, 21)] {
@@ -245,6 +245,7 @@ fn find_in(mut hall: Hall) {
         assert_eq!(number(hall.replace_indices(model, geometry, &[0, 0, 0])), expected, "{model} {geometry}");
     }
     assert_eq!(number(hall.remove_geometry(255, 64)), 21);
+    assert_eq!(number(hall.remove_geometry(0, 0)), 0);
     assert_eq!(number(hall.remove_geometry(255, 63)), 0);
     let declaration = VertexDeclaration { flags: 1, stride: 4, unknown_6h: 0, count: 1, types: 1 };
     let added = NewGeometry { shader_id: 0, declaration, vertex_stride: 4, vertex_count: 1, vertices: &[0; 4], indices: &[0; 3] };
