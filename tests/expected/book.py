@@ -1,7 +1,8 @@
-"""The hall book of document 01: what the calls make of a state, what they refuse, and the image of a hall. Written from document 01, not from the program.
+"""The hall book of document 01, with check 27 of document 02: what the calls make of a state, what they refuse, and the image of a hall. Written from those
+documents, not from the program.
 
 A hall is a tuple of models; a call takes one and gives another, or raises Refused with the number of a question that it alone has. `answered` asks the
-questions that every call has: 11 to 19 about the old hall and about the result, and 24. `saved` asks those of save."""
+questions that every call has: 11 to 18, 27 and 19, in this order, about the old hall and about the result, and 24. `saved` asks those of save."""
 import collections
 import functools
 import struct
@@ -56,7 +57,7 @@ def held_geometry(g):
 
 
 def held_models(models):
-    """The hall of models that pass 11 to 19."""
+    """The hall of models that pass every check of a hall."""
     return tuple(Model(m.binding, m.mask, tuple(held_geometry(g) for g in m.geometries)) for m in models)
 
 
@@ -73,7 +74,7 @@ def add_model(hall, binding, mask):
 
 
 def add_geometry(hall, shader, declaration, stride, count, data, indices):
-    """Judged with the count and stride given: 11 is the lowest."""
+    """Judged with the count and stride given, by 11 first."""
     if not hall:
         raise Refused(21)
     if len(data) != count * stride:
@@ -82,7 +83,7 @@ def add_geometry(hall, shader, declaration, stride, count, data, indices):
     models = listed_hall(hall)
     models[-1].mapping.append(shader)
     models[-1].geometries.append(given)
-    check = checks.lowest(models)
+    check = checks.first_failing(models)
     if check:
         raise Refused(check)
     last = hall[-1]
@@ -162,7 +163,7 @@ def take_in(hall, system, graphics, va):
     if any(g is None for model in models for g in model.geometries):
         raise Refused(11)
     models = [model._replace(mapping=[g.shader for g in model.geometries]) for model in models]
-    check = checks.lowest(models)
+    check = checks.first_failing(models)
     if check:
         raise Refused(check)
     return held_models(models)
@@ -174,7 +175,7 @@ def answered(call, arguments, lent, n):
     if check:
         raise Refused(check)
     hall = call(held_hall(lent, n), *arguments)
-    check = checks.lowest(listed_hall(hall))
+    check = checks.first_failing(listed_hall(hall))
     if check:
         raise Refused(check)
     if length_of(hall) > len(lent):

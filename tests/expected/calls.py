@@ -134,10 +134,10 @@ def size_declared(flags, types):
 
 
 def geometry(shader, count=3, triangles=1, flags=1, types=6, more=0):
-    """`more`: how many bytes the stride has behind the components."""
+    """Sound from three vertices on. `more`: how many bytes the stride has behind the components."""
     stride = size_declared(flags, types) + more
     declaration = Declaration(flags, stride, shader % 256, bin(flags).count("1"), types)
-    indices = tuple((i * 5 + shader) % count for i in range(3 * triangles))
+    indices = tuple((i + shader) % count for i in range(3 * triangles))
     return Geometry(shader, declaration, stride, pattern(count * stride, shader % 256), indices)
 
 
@@ -149,10 +149,10 @@ def model(number, *geometries):
 TYPES = [6, 1, 2, 3, 4, 5, 7, 8, 9, 10, 0, 11, 3, 15, 10, 1]
 EVERY = geometry(0x1234, 5, 2, 0xEFFF, sum(nibble << 4 * i for i, nibble in enumerate(TYPES)), 3)
 HALL = (
-    model(0, geometry(1), geometry(0x202, 4, 2, 3, 0x96, 4), geometry(3, 2)),
+    model(0, geometry(1), geometry(0x202, 4, 2, 3, 0x96, 4), geometry(3, 3)),
     model(1),
     model(2, EVERY),
-    model(3, geometry(65535, 1, 3, 1, 1), geometry(0, 5, 1, 0x8001, 0x8000000000000007)),
+    model(3, geometry(65535, 3, 3, 1, 1), geometry(0, 5, 1, 0x8001, 0x8000000000000007)),
 )
 # the test vector
 VECTOR = (Model(0x01020304, 0x0506, (geometry(0),)),)
@@ -190,9 +190,24 @@ def add_rows():
         assert add_model(buffer, 0, room)[2] == (24 if room < 12 else 0)
 
 
+def doubled_indices():
+    """Of two triangles over four vertices, the first or the second with two equal indices, and an index that is too great nowhere, before or behind; with the
+    number that tells. Then one triangle, with two and three equal indices."""
+    strip = [0, 1, 2, 2, 1, 3]
+    for pair in checks.PAIRS:
+        yield 27, checks.doubled(strip[:3], 0, pair)
+        for triangle in range(2):
+            twice = checks.doubled(strip, triangle, pair)
+            yield 27, twice
+            for other in range(2):
+                yield 18, checks.beyond(twice, other, pair, [4, 0x10001][other])
+    yield 27, [3, 3, 3]
+    yield 18, [4, 4, 4]
+
+
 def given_rows():
     """Geometries added."""
-    every = [geometry(7), geometry(0xFFFF, 1, 1, 1, 2), EVERY, geometry(9, 4, 2, 0x8001, 0x8000000000000007, 5), geometry(2, 5, 1, 0x10001, 3)]
+    every = [geometry(7), geometry(0xFFFF, 3, 1, 1, 2), EVERY, geometry(9, 4, 2, 0x8001, 0x8000000000000007, 5), geometry(2, 5, 1, 0x10001, 3)]
     for hall in [VECTOR, HALL, HALL[:2], HALL[:1]]:
         n = book.length_of(hall)
         buffer = buffer_of(book.written(hall))
@@ -232,14 +247,28 @@ def given_rows():
         (17, plain._replace(indices=(0,)), None),
         (17, plain._replace(indices=(0, 0, 0, 0)), None),
         (17, plain._replace(indices=(4, 4)), None),
-        (18, plain._replace(indices=(0, 0, 4)), None),
-        (18, plain._replace(indices=(0xFFFFFFFF, 0, 0)), None),
-        (18, plain._replace(indices=(0, 0, 3, 3, 2, 65536)), None),
+        (18, plain._replace(indices=(0, 1, 4)), None),
+        (18, plain._replace(indices=(0xFFFFFFFF, 0, 1)), None),
+        (18, plain._replace(indices=(0, 1, 3, 3, 2, 65536)), None),
+        # one vertex or two: no triangle has three
+        (27, geometry(7, 1), None),
+        (27, geometry(7, 2, 2), None),
+        (18, geometry(7, 2)._replace(indices=(0, 1, 2)), None),
+        # every other check of the geometry comes before 27
+        (11, plain._replace(indices=(0, 0, 1)), 3),
+        (14, plain._replace(declaration=wrong._replace(stride=13), indices=(0, 1, 1)), None),
+        (15, plain._replace(declaration=wrong._replace(flags=2), indices=(0, 1, 0)), None),
+        (16, plain._replace(data=b"", indices=(0, 0, 0)), 0),
+        (17, plain._replace(indices=(0, 1, 2, 3, 3)), None),
     ]:
+        # each comes before 24
         assert add_geometry(buffer, n, n, g, count)[2] == check
         assert add_geometry(buffer, n, ROOM, g, count)[2] == check
+    for check, indices in doubled_indices():
+        for room in [127, ROOM]:
+            assert add_geometry(buffer_of(book.written(VECTOR)), 127, room, plain._replace(indices=tuple(indices)))[2] == check
     # without any model, even where the geometry is wrong too
-    for g, count in [(plain, None), (plain, 3)]:
+    for g, count in [(plain, None), (plain, 3), (plain._replace(indices=(0, 0, 1)), None)]:
         assert add_geometry(buffer_of(b""), 0, ROOM, g, count)[2] == 21
     for check, hall in damaged():
         assert add_geometry(buffer_of(hall), len(hall), ROOM, plain, 3)[2] == check
@@ -361,7 +390,7 @@ def index_rows():
             for place, g in enumerate(there.geometries):
                 count, old = len(g.data) // g.stride, len(g.indices)
                 last = count - 1
-                for new in [[last, 0, last], [0, last, last, 0, 0, last]]:
+                for new in [[last, 0, 1], [0, 1, last, last, 1, 0]]:
                     due = n + 4 * (len(new) - old)
                     for room in [due, due - 1, due + 1, n, ROOM]:
                         number_told = replace_indices(buffer, n, room, number, place, new)[2]
@@ -369,28 +398,37 @@ def index_rows():
                 for few in [0, 1, 2, 4, 5]:
                     assert replace_indices(buffer, n, ROOM, number, place, [last] * few)[2] == 17
                     assert replace_indices(buffer, n, ROOM, number, place, [count] * few)[2] == 17
+                # 18 and 27 come before 24
                 for at in range(6):
-                    wrong = [last] * at + [[count, 65536, 0xFFFFFFFF][at % 3]] + [0] * (5 - at)
-                    # 18 comes before 24
+                    wrong = [0, 1, last, last, 1, 0]
+                    wrong[at] = [count, 65536, 0xFFFFFFFF][at % 3]
                     assert replace_indices(buffer, n, n, number, place, wrong)[2] == 18
-            assert replace_indices(buffer, n, ROOM, number, len(there.geometries), [0, 0, 0])[2] == 21
+                for at, pair in enumerate(checks.PAIRS):
+                    twice = checks.doubled([0, 1, last, last, 1, 0], (place + at) % 2, pair)
+                    assert replace_indices(buffer, n, n, number, place, twice)[2] == 27
+            assert replace_indices(buffer, n, ROOM, number, len(there.geometries), [0, 1, 2])[2] == 21
         assert replace_indices(buffer, n, ROOM, len(hall), 0, [])[2] == 21
+        assert replace_indices(buffer, n, ROOM, len(hall), 0, [0, 0, 0])[2] == 21
     for huge in HUGE:
-        assert replace_indices(buffer, n, n, huge, 0, [0, 0, 0])[2] == replace_indices(buffer, n, n, 0, huge, [0, 0, 0])[2] == 21
+        assert replace_indices(buffer, n, n, huge, 0, [0, 1, 2])[2] == replace_indices(buffer, n, n, 0, huge, [0, 1, 2])[2] == 21
     for check, hall in damaged():
-        assert replace_indices(buffer_of(hall), len(hall), ROOM, 0, 0, [0, 0, 0])[2] == check
+        assert replace_indices(buffer_of(hall), len(hall), ROOM, 0, 0, [0, 1, 2])[2] == check
         assert replace_indices(buffer_of(hall), len(hall), len(hall), 9, 0, [])[2] == check
+    four = book.written((model(0, geometry(1, 4)),))
+    for check, new in doubled_indices():
+        for room in [len(four), ROOM]:
+            assert replace_indices(buffer_of(four), len(four), room, 0, 0, new)[2] == check
     # one call behind the other, longer and shorter in turn
     pick = random.Random(5)
     n = book.length_of(HALL)
     buffer = buffer_of(book.written(HALL))
     for turn in range(24):
         number, place = pick.choice([(0, 0), (0, 1), (0, 2), (2, 0), (3, 0), (3, 1)])
-        buffer, n, _ = replace_indices(buffer, n, pick.choice([n, n + 12, ROOM]), number, place, [0] * pick.choice([3, 6]))
+        buffer, n, _ = replace_indices(buffer, n, pick.choice([n, n + 12, ROOM]), number, place, [0, 1, 2] * pick.choice([1, 2]))
 
 
 def damaged():
-    """Lists that fail one of checks 11 to 18, with its number."""
+    """Lists that fail one of checks 11 to 18 or 27, with its number."""
     sound = checks.hall_of([checks.geometry(1), checks.geometry(2)], [checks.geometry(3)])
     yield 11, sound[:-1]
     yield 11, sound + b"\0"
@@ -418,6 +456,36 @@ def unsound_rows():
         assert remove_geometry(buffer, n, room, 0, 0)[2] == set_attribute(buffer, n, room, 0, 0, 0, 0, value_for(6))[2] == 11
         find_model(buffer, n, room, 0)
         find_geometry(buffer, n, room, 0, 0)
+
+
+def doubled_halls():
+    """Lists with two equal indices in a triangle, and some with an index that is too great besides, with the number that tells. In the long ones a triangle
+    is the last of a block of 64, or the last one behind it."""
+    for pair in checks.PAIRS:
+        yield 27, checks.hall_of([checks.geometry(8, held=checks.doubled([0, 1, 2], 0, pair))])
+    sound = checks.geometry(9, held=checks.indices_for(66, 1))
+    small = checks.geometry(8, held=[1, 0, 1])
+    first, last = (sound._replace(held=checks.doubled(sound.held, place, pair)) for place, pair in [(63, (0, 2)), (65, (1, 2))])
+    wrong, both = (sound._replace(held=checks.beyond(held, 65, (0, 1), 3)) for held in (sound.held, first.held))
+    for models in [[first]], [[last], []]:
+        yield 27, checks.hall_of(*models)
+    for models in [[both]], [[small, wrong]], [[last], [wrong]], [[wrong], [small]]:
+        yield 18, checks.hall_of(*models)
+
+
+def doubled_rows():
+    """Every call tells what is wrong with the old hall, also one that would remove or replace the triangle, or would be refused for something else."""
+    for check, hall in doubled_halls():
+        buffer, n = buffer_of(hall), len(hall)
+        assert replace_indices(buffer, n, n, 0, 0, [0, 1, 2])[2] == replace_indices(buffer, n, ROOM, 0, 0, [0, 0, 1])[2] == check
+        assert replace_indices(buffer, n, n, 9, 0, [])[2] == check
+        assert remove_geometry(buffer, n, n, 0, 0)[2] == remove_geometry(buffer, n, n, 0, 9)[2] == check
+        assert remove_model(buffer, n, n, 0)[2] == remove_model(buffer, n, ROOM, 9)[2] == check
+        assert set_attribute(buffer, n, n, 0, 0, 0, 0, value_for(6))[2] == set_attribute(buffer, n, n, 0, 0, 9, 16, ("unsupported", []))[2] == check
+        assert add_model(buffer, n, ROOM)[2] == add_model(buffer, n, n)[2] == check
+        assert add_geometry(buffer, n, ROOM, geometry(7))[2] == add_geometry(buffer, n, n, geometry(7), 4)[2] == check
+        find_model(buffer, n, ROOM, 0)
+        find_geometry(buffer, n, ROOM, 0, 0)
 
 
 def finder_rows():
@@ -460,7 +528,7 @@ def crowded_rows():
     pieces = [(0, 128, 12), (full, 1, 12), (first, 16384, item), (behind, 127, 12)]
     runs = b"".join(repeated(at, count, lent[at : at + length]) for at, count, length in pieces)
     # its mapping is zeros, which no run puts
-    assert not any(lent[full + 12 : first]) and checks.lowest(book.listed_hall(CROWDED)) == 0
+    assert not any(lent[full + 12 : first]) and checks.first_failing(book.listed_hall(CROWDED)) == 0
     for number in [0, 127, 128, 129, 254, 255, 256]:
         place = book.model_place(CROWDED, number)
         crowded_row(13, "crowded find model", runs, [number], None if place is None else [place])
@@ -490,7 +558,7 @@ def random_call(pick, buffer, n, room):
 def random_geometry(pick):
     flags = 1 | pick.getrandbits(16) & pick.getrandbits(16)
     types = pick.getrandbits(64) & ~15 | pick.choice([1, 2, 3, 5, 6, 7, 8, 9, 10])
-    return geometry(pick.getrandbits(16), pick.randrange(1, 5), pick.randrange(1, 4), flags, types, pick.choice([0, 0, 1, 4]))
+    return geometry(pick.getrandbits(16), pick.randrange(3, 5), pick.randrange(1, 4), flags, types, pick.choice([0, 0, 1, 4]))
 
 
 def chain_rows():
@@ -506,6 +574,7 @@ def chain_rows():
 
 def call_rows():
     """The rows, and the lines that they must print."""
-    for make in [add_rows, given_rows, many_rows, removal_rows, type_rows, attribute_rows, index_rows, unsound_rows, finder_rows, crowded_rows, chain_rows]:
+    makers = [add_rows, given_rows, many_rows, removal_rows, type_rows, attribute_rows, index_rows, unsound_rows, doubled_rows, finder_rows, crowded_rows]
+    for make in [*makers, chain_rows]:
         make()
     return list(rows), list(rows.values())

@@ -1,5 +1,7 @@
-"""Checks 11 to 19, written from document 01, and the rows of crates/halls_test that ask for them. tests/expected/halls.py adds these rows to its own.
+"""Checks 11 to 19, written from document 01, and 27, from document 02's N7; and the rows of crates/halls_test that ask for them.
+tests/expected/halls.py adds these rows to its own.
 
+27 comes after 18 and before 19: the check that is told is the first in that order, not the lowest number.
 Checks 13 and 19 need longer lists than a row makes, but for the number of models: rust/calicofern/tests/limits.rs has them."""
 import collections
 import itertools
@@ -15,7 +17,7 @@ LIMIT = 67108864
 ROW, LONG = 4096, 0x90000
 
 
-# ---- halls, from document 01
+# ---- halls, from documents 01 and 02
 
 
 Model = collections.namedtuple("Model", "binding mask mapping geometries")
@@ -106,14 +108,19 @@ def position_size(g):
     return SIZES[g.types & 15] if g.flags & 1 else 0
 
 
+def triangles_of(held):
+    """Three indices each; one or two at the end make none."""
+    return [held[at : at + 3] for at in range(0, len(held) - 2, 3)]
+
+
 def verdict(lent, n):
-    """The lowest check that fails, or 0."""
+    """The first check that fails, in the order of `first_failing` behind 11, or 0."""
     models = models_of(lent[:n]) if n <= len(lent) else None
-    return 11 if models is None else lowest(models)
+    return 11 if models is None else first_failing(models)
 
 
-def lowest(models):
-    """The lowest of checks 12 to 19 that fails, or 0."""
+def first_failing(models):
+    """The first of checks 12 to 18, 27 and 19, in this order, that fails anywhere in the hall, or 0."""
     geometries = [g for model in models for g in model.geometries]
     holds = {
         12: all(model.mapping == [g.shader for g in model.geometries] for model in models),
@@ -123,9 +130,10 @@ def lowest(models):
         16: all(g.vertices == g.count and 1 <= g.count <= 65535 for g in geometries),
         17: all(g.indices == g.index_count == len(g.held) == 3 * g.triangles and len(g.held) >= 3 for g in geometries),
         18: all(index < g.count for g in geometries for index in g.held),
+        27: all(a != b and b != c and a != c for g in geometries for a, b, c in triangles_of(g.held)),
         19: image_size(models) <= LIMIT,
     }
-    return min((check for check, yes in holds.items() if not yes), default=0)
+    return next((check for check, yes in holds.items() if not yes), 0)
 
 
 # ---- rows
@@ -148,17 +156,26 @@ def check_row(lent, n=None):
     return row(3, "check", n, lent, [n], lent)
 
 
+def runs_of(words, at, apart):
+    """Runs that put these eight bytes each, from an offset on: of every so many words the equal ones that follow one another. Zeros need none."""
+    runs = []
+    for first in range(min(apart, len(words))):
+        place = at + 8 * first
+        for word, same in itertools.groupby(words[first::apart]):
+            count = len(list(same))
+            if any(word):
+                runs.append(struct.pack("<4Q", place, 8 * apart, count, int.from_bytes(word, "little")))
+            place += 8 * apart * count
+    return runs
+
+
 def long_row(lent, n=None, head=400):
-    """The same for a longer list, of which a row holds the first bytes, and then eight bytes at a time where they change."""
+    """The same for a longer list, of which a row holds the first bytes, and the others by runs. Triangles that repeat have 12 or 36 bytes, and so three or
+    nine words until the same ones come again."""
     n = len(lent) if n is None else n
     assert len(lent) <= LONG
     words = [lent[at : at + 8].ljust(8, b"\0") for at in range(head, len(lent), 8)]
-    runs, at = [], head
-    for word, same in itertools.groupby(words):
-        count = len(list(same))
-        if any(word):
-            runs.append(struct.pack("<4Q", at, 8, count, int.from_bytes(word, "little")))
-        at += 8 * count
+    runs = min((runs_of(words, head, apart) for apart in (1, 3, 9)), key=len)
     assert len(runs) < 100
     return row(4, "long check", n, lent, [n, len(lent), 0, 0, len(runs)], b"".join(runs) + lent[:head])
 
@@ -198,7 +215,7 @@ def hall_of(*models):
 
 def others(count):
     """Sound geometries that differ."""
-    return [geometry(40 + i, 3 + i, 12 + 4 * i, [i, 0, 2] * (1 + i)) for i in range(count)]
+    return [geometry(40 + i, 3 + i, 12 + 4 * i, [i, i + 1, i + 2] * (1 + i)) for i in range(count)]
 
 
 def place_rows(g, check):
@@ -232,7 +249,7 @@ def length_rows():
         assert check_row(vector + tail, len(vector)) == 0
         check_row(vector + tail)
     # cut at every byte, with what is cut off lent or not, and asked about in whole
-    a, b = geometry(5), geometry(6, 2, 4, [1, 0, 1], types=1)
+    a, b = geometry(5), geometry(6, 3, 4, [1, 0, 2], types=1)
     whole, apart = hall_of([a, b]), hall_of([a], [b])
     for n in range(len(whole)):
         assert (check_row(whole[:n]) if n % 2 else check_row(whole, n)) == {0: 0, 16: 12, 16 + len(geometry_bytes(a)): 12}.get(n, 11)
@@ -245,7 +262,7 @@ def length_rows():
 
 def byte_rows():
     """Every byte of a small hall changed."""
-    hall = hall_of([geometry(0x0102, 2, 4, [1, 0, 1], types=1)])
+    hall = hall_of([geometry(0x0102, 3, 4, [1, 0, 2], types=1)])
     for at, byte in enumerate(hall):
         for value in sorted({255, byte ^ 1, byte ^ 128} - {byte}):
             check_row(hall[:at] + bytes([value]) + hall[at + 1 :])
@@ -434,11 +451,12 @@ def vertex_count_rows():
         geometry_rows(g._replace(vertices=vertices), 16)
     for wrong in [g._replace(vertices=2), geometry(count=0), geometry(count=4)._replace(vertices=3), geometry(count=0)._replace(vertices=3)]:
         place_rows(wrong, 16)
-    geometry_rows(geometry(count=1, held=[0, 0, 0]), 0)
+    # one vertex is enough here, though no triangle has its three vertices then
+    geometry_rows(geometry(count=1, held=[0, 0, 0]), 27)
     # counts of which the lower 16 bits are the number of vertices, and others
     for count in [255, 256, 257, 65534, 65535, 65536, 65537, 65539, 131072]:
         for vertices in sorted({count & 0xFFFF, min(count, 65535), 3}):
-            many = geometry(count=count, stride=4, held=[0, 0, 2], types=1, data=bytes(4 * count))._replace(vertices=vertices)
+            many = geometry(count=count, stride=4, held=[0, 1, 2], types=1, data=bytes(4 * count))._replace(vertices=vertices)
             assert long_row(hall_of([many])) == (0 if vertices == count else 16)
 
 
@@ -468,7 +486,7 @@ def index_count_rows():
     assert check_row(hall_of([geometry(held=[0, 1, 2, 2, 1, 0])._replace(indices=3, triangles=1)])) == 17
     # 412 triangles beside the indices of 413
     for held, indices, index_count, triangles in itertools.product([412, 413], repeat=4):
-        g = geometry(held=[2, 1] * (3 * held // 2) + [2] * (held % 2))
+        g = geometry(held=[2, 1, 0] * held)
         wrong = g._replace(indices=3 * indices, index_count=3 * index_count, triangles=triangles)
         assert long_row(hall_of([wrong])) == (0 if held == indices == index_count == triangles else 17)
 
@@ -480,23 +498,24 @@ def index_rows():
     """An index at every place of a triangle or two; a count of one byte and of two."""
     for held in [3, 6]:
         for at in range(held):
-            for wrong in [2, 3, 4, 255, 256, 65536, 1 << 24, 1 << 31, 0xFFFF0000, 0xFFFFFFFF] if held == 3 else [2, 3]:
+            for wrong in [3, 4, 5, 255, 256, 65536, 1 << 24, 1 << 31, 0xFFFF0000, 0xFFFFFFFF] if held == 3 else [3, 4]:
                 items = [i % 3 for i in range(held)]
                 items[at] = wrong
-                assert check_row(hall_of([geometry(held=items)])) == (0 if wrong == 2 else 18)
-                if held == 3 and wrong in (3, 0xFFFFFFFF):
-                    place_rows(geometry(held=items), 18)
+                g = geometry(count=4, held=items)
+                assert check_row(hall_of([g])) == (0 if wrong == 3 else 18)
+                if held == 3 and wrong in (4, 0xFFFFFFFF):
+                    place_rows(g, 18)
     # a later geometry's own count decides, not an earlier one's
-    few, many = geometry(1, 2, held=[1, 1, 0]), geometry(2, 5, held=[4, 3, 0])
-    for first, second in itertools.product([few, many, few._replace(held=[1, 2, 0]), many._replace(held=[4, 5, 0])], repeat=2):
+    few, many = geometry(1, 3, held=[2, 1, 0]), geometry(2, 5, held=[4, 3, 0])
+    for first, second in itertools.product([few, many, few._replace(held=[1, 3, 0]), many._replace(held=[4, 5, 0])], repeat=2):
         check_row(hall_of([first, second]))
         check_row(hall_of([first], [second]))
     for count in [255, 256, 257, 300]:
         for index in [count - 2, count - 1, count, count + 1, count + 256, count + 65535]:
-            check_row(hall_of([geometry(count=count, stride=4, types=1, held=[0, index, count - 1])]))
+            check_row(hall_of([geometry(count=count, stride=4, types=1, held=[0, index, 1])]))
     for count in [65534, 65535]:
         for index in [count - 1, count, 65536, 65536 + count - 1]:
-            g = geometry(count=count, stride=4, types=1, data=bytes(4 * count), held=[0, 0, index])
+            g = geometry(count=count, stride=4, types=1, data=bytes(4 * count), held=[0, 1, index])
             assert long_row(hall_of([g])) == (0 if index < count else 18)
 
 
@@ -504,7 +523,7 @@ def long_index_rows():
     """A wrong index at the first, middle and last places of longer lists, around multiples of 64 indices."""
     for triangles in [22, 85, 86, 128, 342, 1366, 21846]:
         count = 3 * triangles
-        base = [2, 1] * (count // 2) + [2] * (count % 2)
+        base = [2, 1, 0] * triangles
         places = {0, 1, count // 2, count - 2, count - 1, count - count % 64, count - count % 256}
         places |= {place + step for place in [64, 128, 256, 512, 1024, 4096] for step in (-1, 0)} if count > 250 else {63}
         assert long_row(hall_of([geometry(held=base)])) == 0
@@ -515,9 +534,9 @@ def long_index_rows():
                 assert long_row(hall_of([geometry(held=items)])) == 18
     # 65,538 indices, a number whose lower 16 bits are 2
     for field in ["indices", "index_count"]:
-        assert long_row(hall_of([geometry(held=[2, 1] * 32769)._replace(**{field: 2})])) == 17
+        assert long_row(hall_of([geometry(held=[2, 1, 0] * 21846)._replace(**{field: 2})])) == 17
     # two wrong ones, and a wrong one in the second of two long lists
-    base = [2, 1] * 384
+    base = [2, 1, 0] * 256
     wrong = base[:700] + [3] + base[701:]
     for first, second in itertools.product([base, wrong], repeat=2):
         check = 0 if first == second == base else 18
@@ -525,21 +544,111 @@ def long_index_rows():
         assert long_row(hall_of([geometry(1, held=first)], [geometry(2, held=second)]), head=200) == check
 
 
+# ---- check 27
+
+
+# places in a triangle
+PAIRS = [(0, 1), (1, 2), (0, 2)]
+# triangles over three vertices, to be repeated: of neighbours, the last and the first index are equal in the second list, the last two and the first two in
+# the third
+PATTERNS = [[2, 1, 0], [0, 1, 2, 2, 0, 1, 1, 2, 0], [0, 1, 2, 1, 2, 0, 2, 0, 1]]
+
+
+def indices_for(triangles, number=0):
+    """So many sound triangles, by one of the patterns."""
+    return (PATTERNS[number % 3] * triangles)[: 3 * triangles]
+
+
+def doubled(indices, triangle, pair):
+    """The same, but that in one triangle a pair is equal."""
+    first, second = pair
+    out = list(indices)
+    out[3 * triangle + second] = out[3 * triangle + first]
+    return out
+
+
+def beyond(indices, triangle, pair, wrong):
+    """The same, but that in one triangle the index that is not of the pair is another."""
+    out = list(indices)
+    out[3 * triangle + 3 - sum(pair)] = wrong
+    return out
+
+
+def triangle_rows():
+    """Every triangle over three vertices; where it stands among others; with one vertex or two; beside an index that is too great."""
+    for held in itertools.product(range(3), repeat=3):
+        assert check_row(hall_of([geometry(held=held)])) == (0 if len(set(held)) == 3 else 27)
+        for count in [1, 2]:
+            assert check_row(hall_of([geometry(count=count, held=held)])) == (18 if max(held) >= count else 27)
+    # a strip: each triangle begins with the vertex that the one before ends with, and has another of its vertices
+    strip = [0, 1, 2, 2, 1, 3, 3, 1, 0]
+    for held in [strip, strip[:6], [0, 1, 2, 2, 3, 1], [0, 1, 2, 0, 1, 2], [0, 1, 2, 1, 2, 0], [3, 2, 1, 1, 2, 3]]:
+        geometry_rows(geometry(count=4, held=held), 0)
+    for pair in PAIRS:
+        place_rows(geometry(held=doubled([0, 1, 2], 0, pair)), 27)
+        for triangle in range(3):
+            geometry_rows(geometry(count=4, held=doubled(strip, triangle, pair)), 27)
+            for other in range(3):
+                geometry_rows(geometry(count=4, held=beyond(doubled(strip, triangle, pair), other, pair, 4)), 18)
+    # the doubled index itself is too great, also where its lower 16 bits are another's
+    for held in [[3, 3, 0], [0, 3, 3], [3, 0, 3], [3, 3, 3], [1, 0x10001, 2], [0x10001, 0x10001, 2], [2, 1, 0xFFFFFFFF], [0xFFFFFFFF] * 3]:
+        geometry_rows(geometry(held=held), 18)
+    # equal vertices under different indices
+    geometry_rows(geometry(data=bytes(36)), 0)
+    geometry_rows(geometry(data=pattern(12, 9) * 3), 0)
+    # numbers that differ in one byte alone, or have the same bytes in another order
+    for a, b in [(0x0001, 0x0101), (0x0001, 0x8001), (0x00FE, 0xFFFE), (0xFF00, 0xFF01), (0x1234, 0x3412)]:
+        for pair in PAIRS:
+            held = [2, 2, 2]
+            held[pair[0]], held[pair[1]] = a, b
+            many = geometry(count=65535, stride=4, types=1, data=bytes(4 * 65535), held=held)
+            assert long_row(hall_of([many]), head=120) == 0
+            assert long_row(hall_of([many._replace(held=doubled(held, 0, pair))]), head=120) == 27
+
+
+def long_triangle_rows():
+    """A triangle anywhere in and behind blocks of 64 triangles; triangle 21 lies on both sides of the 64th index."""
+
+    def told(*models):
+        return long_row(hall_of(*models), head=120)
+
+    for triangles in [21, 22, 63, 64, 65, 85, 86, 127, 128, 129, 191, 192, 193, 200]:
+        for number in range(3):
+            assert told([geometry(held=indices_for(triangles, number))]) == 0
+        for place in sorted({0, 21, triangles // 2, 63, 64, 127, 128, triangles - 1}):
+            for pair in PAIRS if place < triangles else []:
+                assert told([geometry(held=doubled(indices_for(triangles, triangles + place), place, pair))]) == 27
+    for place in range(67):
+        assert told([geometry(held=doubled(indices_for(67, 1), place, PAIRS[place % 3]))]) == 27
+    # an index that is too great before it, behind it or in it, in the same block, in another, and behind the blocks
+    places = [0, 40, 63, 64, 127, 150, 192, 199]
+    for at, (twice, wrong) in enumerate(itertools.product(places, repeat=2)):
+        pair = PAIRS[at % 3]
+        assert told([geometry(held=beyond(doubled(indices_for(200), twice, pair), wrong, pair, [3, 65536, 0xFFFFFFFF][at % 3]))]) == 18
+    # two long lists
+    base = indices_for(256)
+    twice, wrong = doubled(base, 233, (0, 2)), beyond(base, 130, (0, 2), 3)
+    for first, second in itertools.product([base, twice, wrong], repeat=2):
+        check = 18 if wrong in (first, second) else 27 if twice in (first, second) else 0
+        assert told([geometry(1, held=first), geometry(2, held=second)]) == check
+        assert told([geometry(1, held=first)], [geometry(2, held=second)]) == check
+
+
 # ---- several checks
 
 
-# what makes the geometry fail one check alone
-BROKEN = {14: {"layout": 1}, 15: {"flags": 2}, 16: {"vertices": 2}, 17: {"triangles": 2}, 18: {"held": [0, 1, 9]}}
+# what makes the geometry fail one check alone, in the order of the checks
+BROKEN = {14: {"layout": 1}, 15: {"flags": 2}, 16: {"vertices": 2}, 17: {"triangles": 2}, 18: {"held": [0, 1, 9]}, 27: {"held": [1, 0, 1]}}
 
 
 def several_rows():
-    """Two checks fail, at one place or at two, the lower number first or last: the lower is told."""
-    for low, high in itertools.combinations(BROKEN, 2):
-        both = geometry()._replace(**BROKEN[low], **BROKEN[high])
-        geometry_rows(both, low)
-        a, b = geometry(1)._replace(**BROKEN[low]), geometry(2)._replace(**BROKEN[high])
-        for hall in [hall_of([a, b]), hall_of([b, a]), hall_of([a], [b]), hall_of([b], [a]), hall_of([b, *others(2)], [a])]:
-            assert check_row(hall) == low
+    """Two checks fail, at one place or at two, the earlier check first or last: it is the one that is told. For 18 and 27 at one place see `triangle_rows`."""
+    for early, late in itertools.combinations(BROKEN, 2):
+        if early != 18:
+            geometry_rows(geometry()._replace(**BROKEN[early], **BROKEN[late]), early)
+        a, b = geometry(1)._replace(**BROKEN[early]), geometry(2)._replace(**BROKEN[late])
+        for hall in [hall_of([a, b]), hall_of([b, a]), hall_of([a], [b]), hall_of([b], [a]), hall_of([b, *others(2)], [a]), hall_of([a, *others(2)], [b])]:
+            assert check_row(hall) == early
     for check, change in BROKEN.items():
         g = geometry(7)._replace(**change)
         wrong_mapping = model_record([8]) + geometry_bytes(geometry(7))
@@ -556,6 +665,16 @@ def several_rows():
     place_rows(every._replace(layout=0), 15)
 
 
+def random_indices(pick, count, triangles):
+    """Sound triangles over `count` vertices, which are three at least."""
+    return [index for _ in range(triangles) for index in pick.sample(range(count), 3)]
+
+
+def random_doubled(pick, indices):
+    """The same, but that in one triangle a pair is equal."""
+    return doubled(indices, pick.randrange(len(indices) // 3), pick.choice(PAIRS))
+
+
 def random_hall(pick):
     models = []
     for _ in range(pick.randrange(1, 4)):
@@ -564,8 +683,8 @@ def random_hall(pick):
             types = pick.choice([6, 6, 1, 3, 7, 0x96, 0x9A6])
             flags = pick.choice([1, 1, 3, 7, 0x10001])
             stride = components_size(geometry(flags=flags, types=types, data=b"")) + pick.choice([0, 0, 4])
-            count, triangles = pick.randrange(1, 6), pick.randrange(1, 4)
-            model.append(geometry(pick.randrange(4), count, stride, [pick.randrange(count) for _ in range(3 * triangles)], flags, types))
+            count, triangles = pick.randrange(3, 6), pick.randrange(1, 4)
+            model.append(geometry(pick.randrange(4), count, stride, random_indices(pick, count, triangles), flags, types))
         models.append(model)
     return models
 
@@ -576,7 +695,7 @@ FIELDS = [("layout", 2), ("stride", 30), ("declared_stride", 30), ("vertices", 6
 def random_rows():
     """Seeded, so that they are the same each time: some fields changed, or an index, or some bytes."""
     pick = random.Random(2)
-    for _ in range(100):
+    for _ in range(120):
         models = random_hall(pick)
         for _ in range(pick.choice([0, 1, 1, 2, 3])):
             model = pick.choice(models)
@@ -585,6 +704,8 @@ def random_rows():
             model[at] = model[at]._replace(**{field: pick.randrange(bound)})
             if pick.random() < 0.3:
                 model[at].held[pick.randrange(len(model[at].held))] = pick.choice([model[at].count, 1 << 31])
+            if pick.random() < 0.3:
+                model[at] = model[at]._replace(held=random_doubled(pick, model[at].held))
         hall = bytearray(hall_of(*models))
         for _ in range(pick.choice([0, 0, 0, 1, 2])):
             hall[pick.randrange(len(hall))] = pick.choice([0, 1, 2, 6, 255])
@@ -607,6 +728,8 @@ def check_rows():
     index_count_rows()
     index_rows()
     long_index_rows()
+    triangle_rows()
+    long_triangle_rows()
     several_rows()
     random_rows()
     return list(rows), list(rows.values())

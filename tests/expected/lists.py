@@ -3,7 +3,7 @@
 python3 tests/expected/lists.py
 
 It writes crates/images_test/stdin, rows of seven little-endian u64 (what is called, what with, and how many bytes follow) and those bytes,
-and crates/images_test/stdout. The answers come from the hall book of book.py, written from document 01.
+and crates/images_test/stdout. The answers come from the hall book of book.py, written from documents 01 and 02.
 A list has one buffer for the hall, of which a part is lent, and one for images. It starts with an empty hall, or with a list that is none, so that
 the questions about the old hall are asked too. Each call gets the buffers as the one before left them. What is saved can be taken in again.
 
@@ -17,7 +17,8 @@ import struct
 import book
 import checks
 from blocks import gen9_block, legacy_block
-from calls import EVERY, HALL, VECTOR, damaged, geometry, given_bytes, index_bytes, random_geometry, size_declared, value_bytes, value_for
+from calls import EVERY, HALL, VECTOR, damaged, doubled_halls, geometry, given_bytes, index_bytes, random_geometry, size_declared, value_bytes, value_for
+from checks import PAIRS, beyond, doubled, indices_for, random_doubled, random_indices
 from drawables import NAMES, NOWHERE, Drawable, Writer, damage, random_drawable, vector
 from layouts import FLOATS, SHAPES, components_of
 from rows import SYSTEM, checksum, hexed, packed_with, pattern, store
@@ -25,15 +26,15 @@ from rows import SYSTEM, checksum, hexed, packed_with, pattern, store
 # a row's bytes, the hall's buffer, the image buffer
 ROW, ROOM, IMAGE = 4096, 4096, 16384
 # the refusals of a list that is no hall, and those of the calls on one
-OLD = set(range(11, 19))
+OLD = {*range(11, 19), 27}
 POSSIBLE = {
     "add model": {13, 24},
-    "add geometry": {11, 14, 15, 16, 17, 18, 21, 24},
+    "add geometry": {11, 14, 15, 16, 17, 18, 21, 24, 27},
     "remove model": {21},
     "remove geometry": {21},
     "set attribute": {21, 22, 23},
-    "replace indices": {17, 18, 21, 24},
-    "take in": {2, 3, 4, 5, 6, 11, 13, 14, 15, 16, 17, 18, 19, 24},
+    "replace indices": {17, 18, 21, 24, 27},
+    "take in": {2, 3, 4, 5, 6, 11, 13, 14, 15, 16, 17, 18, 19, 24, 27},
     "save": {20},
 }
 # the lists, and how often each answer is told: by call, whether the old hall is sound, and number, 0 where it is accepted
@@ -148,11 +149,16 @@ def replay(operations, room=ROOM, begins=b"", n=0):
     return numbers
 
 
-def reached(operations):
-    """The greatest n, in a buffer long enough."""
+def made_by(operations):
+    """Where the list stands afterwards, in a buffer long enough."""
     made = CallList(ROOM)
     made.made(operations)
-    return made.greatest
+    return made
+
+
+def reached(operations):
+    """The greatest n, in a buffer long enough."""
+    return made_by(operations).greatest
 
 
 def replay_in_rooms(operations):
@@ -169,14 +175,14 @@ def replay_in_rooms(operations):
 # ---- drawables to take in
 
 
-# what is wrong with one of the geometries, or with what leads to them
-FAULTS = [2, 3, 4, 6, 11, 14, 15, 16, 17, 18]
+# what is wrong with one of the geometries, or with what leads to them, in the order of the questions
+FAULTS = [2, 3, 4, 6, 11, 14, 15, 16, 17, 18, 27]
 
 
 def put_vertices(w, pick, fault):
     """Address of the vertex block, inline pointer, vertices, stride, and how many there are."""
     # the strides and counts of an inline buffer are one number
-    layout, count = pick.randrange(3 if fault in (14, 16) else 4), pick.randrange(1, 6)
+    layout, count = pick.randrange(3 if fault in (14, 16) else 4), pick.randrange(3, 6)
     given = random_geometry(pick)
     declared = layout < 2 and pick.random() < 0.7
     stride = given.stride if declared else 12 + pick.choice([0, 0, 1, 4])
@@ -190,7 +196,7 @@ def put_vertices(w, pick, fault):
     info = w.declaration(flags, stored % 65536, pick.randrange(256), pick.randrange(256), types) if declared else pick.choice([0, 0x40000000])
     vertices = pick.choice([0, count, count]) if layout < 3 else count
     if fault == 16:
-        vertices = count + pick.choice([-1, 1]) if count > 1 else 2
+        vertices = count + pick.choice([-1, 1])
     if fault == 11:
         return pick.choice([0, 0x40000000, w.put("vertex block", legacy_block(stride, count, 0, 0, info))]), 0, vertices, stride, count
     if layout == 3:
@@ -204,8 +210,10 @@ def put_geometry(w, pick, fault=0):
     lacking = fault == 11 and pick.random() < 0.5
     vertex_block, inline, vertices, stride, count = put_vertices(w, pick, 0 if lacking else fault)
     number = 3 * pick.choice([1, 1, 2, 3, 7])
-    indices = [pick.randrange(count) for _ in range(number)]
+    indices = random_indices(pick, count, number // 3)
     size = pick.choice([2, 2, 4])
+    if fault == 27:
+        indices = random_doubled(pick, indices)
     if fault == 18:
         indices[pick.randrange(number)] = pick.choice([count, count + 1, 65535] if size == 2 else [count, 65536, 0xFFFFFFFF])
     items = w.numbers("indices", "HI"[size == 4], indices)
@@ -269,15 +277,15 @@ def fitting(make, *arguments):
             return made
 
 
-def many(models, geometries, more_models=0, extra=0, stride=16, count=0, indices=3):
+def many(models, geometries, more_models=0, extra=0, stride=16, count=0, indices=3, held=None):
     """The same model so many times with the same geometry so many times; then models without any, and one with `extra` geometries. The vertex bytes are
-    the section's first, whatever stands there."""
+    the section's first, whatever stands there. `held` are the indices, sound by default."""
     w = Writer()
-    zeros = w.put("indices", bytes(2 * indices))
+    items = w.numbers("indices", "H", held or indices_for(indices // 3))
     block = w.put("vertex block", legacy_block(stride, count, SYSTEM, 0, w.declaration(1, stride, types=7))) if count else 0
-    at = w.geometry(block, w.index_block(indices, zeros), indices, indices // 3, count, stride)
-    items = w.numbers("geometries", "Q", [at] * max(geometries, extra))
-    pointers = [w.model(items, geometries)] * models + [w.model(0, 0)] * more_models + [w.model(items, extra)] * (extra > 0)
+    at = w.geometry(block, w.index_block(indices, items), indices, indices // 3, count, stride)
+    geometry_list = w.numbers("geometries", "Q", [at] * max(geometries, extra))
+    pointers = [w.model(geometry_list, geometries)] * models + [w.model(0, 0)] * more_models + [w.model(geometry_list, extra)] * (extra > 0)
     va = w.header(pointers)
     w.put("data", bytes(ROW - len(w.sections["system"])))
     return w.drawable(va)
@@ -323,9 +331,9 @@ def old_hall_lists():
     good, bad = vector(), vector()._replace(system=vector().system[:-1])
     wrong = geometry(7)._replace(indices=(9, 9, 9))
     calls = [("add_model",), ("remove_model", 0), ("remove_model", 9), ("remove_geometry", 0, 0), ("remove_geometry", 0, 9), ("add_geometry", geometry(7))]
-    calls += [("add_geometry", wrong), ("set_attribute", 0, 0, 0, 0, value_for(6)), ("set_attribute", 9, 0, 0, 0, value_for(6)), ("replace_indices", 0, 0, [0, 0, 0])]
+    calls += [("add_geometry", wrong), ("set_attribute", 0, 0, 0, 0, value_for(6)), ("set_attribute", 9, 0, 0, 0, value_for(6)), ("replace_indices", 0, 0, [2, 1, 0])]
     calls += [("replace_indices", 0, 0, []), ("take_in", good), ("take_in", bad), ("take_in", good._replace(va=0)), ("save",), ("save", -576), ("take_image",)]
-    broken = [*damaged(), (13, checks.model_record() * 257), (12, checks.model_record() * 256 + checks.model_record([1]))]
+    broken = [*damaged(), *doubled_halls(), (13, checks.model_record() * 257), (12, checks.model_record() * 256 + checks.model_record([1]))]
     for check, hall in broken:
         assert replay(calls, len(hall) + 200 if len(hall) < 3000 else ROOM, hall, len(hall)) == [check] * len(calls)
     # more bytes asked about than are lent
@@ -354,8 +362,13 @@ def wrong_geometries():
     yield 16, plain._replace(data=b""), 0
     yield 17, plain._replace(indices=()), None
     yield 17, plain._replace(indices=(0, 1, 2, 3)), None
-    yield 18, plain._replace(indices=(0, 4, 0)), None
-    yield 18, plain._replace(indices=(0, 0, 3, 3, 2, 65536)), None
+    yield 17, plain._replace(indices=(0, 0, 0, 0)), None
+    yield 18, plain._replace(indices=(0, 4, 1)), None
+    yield 18, plain._replace(indices=(0, 1, 3, 3, 2, 65536)), None
+    yield 18, plain._replace(indices=(0, 0, 3, 3, 2, 4)), None
+    yield 27, plain._replace(indices=(0, 3, 0)), None
+    yield 27, plain._replace(indices=(0, 1, 3, 3, 3, 2)), None
+    yield 27, plain._replace(indices=(0, 1, 1, 1, 0, 2)), None
 
 
 def edit_lists():
@@ -379,12 +392,15 @@ def edit_lists():
             (22, ("set_attribute", *place, 0, 16, value_for(6))),
             (23, ("set_attribute", *place, 0, 0, ("unsupported", []))),
             (0, ("save",)),
-            (0, ("replace_indices", *place, [0] * 6)),
-            (0, ("replace_indices", *place, [count - 1, 0, 0])),
+            (0, ("replace_indices", *place, [0, 1, 2, 2, 1, 0])),
+            (0, ("replace_indices", *place, [count - 1, 0, 1])),
             (17, ("replace_indices", *place, [])),
             (17, ("replace_indices", *place, [0] * 5)),
+            (18, ("replace_indices", *place, [0, 1, 2, 0, 1, count])),
             (18, ("replace_indices", *place, [0, 0, 0, 0, 0, count])),
-            (21, ("replace_indices", place[0], place[1] + 1, [0, 0, 0])),
+            (27, ("replace_indices", *place, [0, 1, 2, 1, 0, 1])),
+            (27, ("replace_indices", *place, [0, 0, 1])),
+            (21, ("replace_indices", place[0], place[1] + 1, [0, 1, 2])),
             (0, ("save", 7)),
             (21, ("remove_geometry", place[0], place[1] + 1)),
             (21, ("remove_geometry", place[0] + 1, 0)),
@@ -401,12 +417,12 @@ def edit_lists():
     # one to nine geometries in a model, with a save at each
     operations = [("add_model",)]
     for shader in range(9):
-        operations += [("add_geometry", geometry(0x101 * shader, 1 + shader % 4, 1 + shader % 2, 1, 1, shader)), ("save",)]
+        operations += [("add_geometry", geometry(0x101 * shader, 3 + shader % 4, 1 + shader % 2, 1, 1, shader)), ("save",)]
     replay_in_rooms([*operations, ("remove_geometry", 0, 4), ("save",), ("take_image",)])
     # counts, strides and indices of two bytes
-    for g in [geometry(300, 300, 1, 1, 1), geometry(256, 2, 2, 1, 6, 300)]:
+    for g in [geometry(300, 300, 1, 1, 1), geometry(256, 3, 2, 1, 6, 300)]:
         count = len(g.data) // g.stride
-        indices = ("replace_indices", 0, 0, [count - 1, min(count - 1, 256), 0])
+        indices = ("replace_indices", 0, 0, [count - 1, min(count - 2, 256), 0])
         attribute = ("set_attribute", 0, 0, count - 1, 0, value_for(g.declaration.types, 5))
         replay_in_rooms([("add_model",), ("add_geometry", g), ("save",), indices, ("save",), attribute, ("take_image",), ("save",)])
     # every attribute of a vertex that has all types, between two saves
@@ -431,21 +447,62 @@ def taking_lists():
             replay(operations, max(reached(operations) - len(lists) % 2, 0))
         else:
             replay(operations)
-    # two faults: the first in walk order of those that do not resolve, else the lowest number, and none gives way to 24
+    # two faults: the first in walk order of those that do not resolve, else the earlier question, and none gives way to 24
     pairs = list(itertools.permutations(FAULTS[1:], 2))
     drawables = [fitting(drawable_with, pick, pair, [0]) for pair in pairs]
-    expected = [next((fault for fault in pair if fault < 11), min(pair)) for pair in pairs]
+    expected = [next((fault for fault in pair if fault < 11), min(pair, key=FAULTS.index)) for pair in pairs]
     assert replay([("take_in", drawable) for drawable in drawables], 0) == expected
     # a header that does not resolve: the empty hall
     for va in [0, *NOWHERE, vector().va + 1]:
         assert replay([*ADD_VECTOR, ("take_in", vector()._replace(va=va)), ("save",)]) == [0, 0, 0, 0]
     # an image at other addresses, cut short, and with more of the buffer behind it
     whole = [*added(HALL), ("save",)]
+    length = len(book.image(made_by(whole).hall))
     for va in [SYSTEM + 16, SYSTEM + 1, 0x40000000]:
         replay([*whole, ("remove_model", 0), ("take_image", 0, va), ("save",)])
-    for more in [-1, -16, -1000, -3400, -3520, -3521, 40]:
+    for more in [-1, -16, -1000, 136 - length, 16 - length, 15 - length, 40]:
         replay([*whole, ("remove_model", 0), ("take_image", more), ("save",)])
     replay_in_rooms([("take_in", vector()), ("remove_model", 0), ("take_in", vector()), ("add_model",)])
+
+
+def with_indices(indices, form, count=3):
+    """One geometry over Float3 positions. `form`: two bytes an index behind the first pointer, or so many behind the second one."""
+    w = Writer()
+    items = w.numbers("indices", "I" if form == "four" else "H", indices)
+    block = w.index_block(len(indices), items) if form == "first" else w.index_block(len(indices), 0, 4 if form == "four" else 2, items)
+    vertex_block = w.put("vertex block", legacy_block(12, count, w.data(12 * count), 0, w.declaration()))
+    return w.drawable(w.header([w.model([w.geometry(vertex_block, block, len(indices), len(indices) // 3, count)], mapping=w.mapping([5]))]))
+
+
+def triangle_lists():
+    """Triangles that are taken in: two equal indices at each place of a triangle, in and behind blocks of 64 triangles; triangle 21 lies on both sides of the
+    64th index. All over a hall that stays, in a buffer that has room for none of them, and sound ones in a longer buffer."""
+    lengths = {1: [0], 22: [0, 21], 64: [63], 65: [0, 63, 64], 130: [127, 129]}
+    for form in ["first", "second", "four"]:
+        operations, expected = [], []
+        for triangles, places in lengths.items():
+            # once found, two bytes an index are read alike behind either pointer
+            for place, pair in itertools.product(places, PAIRS) if form != "second" or triangles < 64 else []:
+                operations.append(("take_in", with_indices(doubled(indices_for(triangles, place), place, pair), form)))
+                expected.append(27)
+        # an index that is too great in the same triangle, in the same block, and in it or behind it
+        for (twice, wrong), pair in zip([(0, 0), (0, 64), (64, 0), (10, 50), (50, 10)], itertools.cycle(PAIRS)):
+            held = beyond(doubled(indices_for(65), twice, pair), wrong, pair, 3)
+            operations.append(("take_in", with_indices(held, form)))
+            expected.append(18)
+        # one vertex, two, and numbers that differ in their upper byte
+        for count, held, number in [(1, [0, 0, 0], 27), (2, [0, 1, 0], 27), (2, [0, 1, 2], 18), (1, [1, 1, 1], 18), (258, [1, 257, 1], 27), (258, [257, 257, 1], 27)]:
+            operations.append(("take_in", with_indices(held, form, count)))
+            expected.append(number)
+        assert replay([*ADD_VECTOR, *operations, ("save",)], 127) == [0, 0, *expected, 0]
+        sound = [("take_in", with_indices(indices_for(triangles, number), form)) for number, triangles in enumerate([1, 22, 64, 65, 65, 65])]
+        sound += [("take_in", with_indices([1, 257, 0, 257, 0, 1], form, 258)), ("save",), ("take_image",)]
+        assert replay(sound) == [0] * len(sound)
+        # sound ones too are refused in the short buffer
+        assert replay([*ADD_VECTOR, sound[1], sound[3]], 127) == [0, 0, 24, 24]
+    # upper halves that differ
+    upper = [with_indices(held, "four") for held in ([1, 0x10001, 2], [0x10001, 0x10001, 1])]
+    assert replay([("take_in", drawable) for drawable in upper]) == [18, 18]
 
 
 def limit_lists():
@@ -456,7 +513,7 @@ def limit_lists():
     assert replay([("take_in", full), ("add_model",)], 3071) == [24, 0]
     assert replay([("take_in", full), ("add_model",)], 3072) == [0, 13]
     # 16,384 geometries, and one more; without vertices, 11 comes first
-    numbers = [(128, 128, 0, 1, 24), (128, 128, 1, 1, 5), (128, 128, 0, 0, 11), (100, 163, 84, 1, 24), (100, 163, 85, 1, 5), (257, 63, 0, 1, 13)]
+    numbers = [(128, 128, 0, 3, 24), (128, 128, 1, 3, 5), (128, 128, 0, 0, 11), (100, 163, 84, 3, 24), (100, 163, 85, 3, 5), (257, 63, 0, 3, 13)]
     for models, geometries, extra, count, number in numbers:
         assert replay([*ADD_VECTOR, ("take_in", many(models, geometries, 0, extra, count=count)), ("save",)]) == [0, 0, number, 0]
     # images of exactly 67,108,864 bytes, and of 16 more
@@ -464,28 +521,43 @@ def limit_lists():
     assert checks.image_size(book.listed_hall(book.take_in((), *longest))) == 67108864
     for drawable, number in [(longest, 24), (longer, 19), (many(128, 128, count=255), 19)]:
         assert replay([*ADD_VECTOR, ("take_in", drawable), ("add_model",)]) == [0, 0, number, 0]
+    # the same with two equal indices, which come before 19 and 24, and with one that is too great, which comes before all
+    for number, held in [(27, doubled(indices_for(3), 2, (0, 2))), (18, beyond(doubled(indices_for(3), 0, (0, 1)), 2, (0, 1), 255))]:
+        drawables = [many(60, 261, 24, 11, 29, 132, 9, held), many(60, 263, 28, 9, 29, 131, 9, held)]
+        assert replay([*ADD_VECTOR, *[("take_in", drawable) for drawable in drawables], ("add_model",)]) == [0, 0, number, number, 0]
 
 
 # ---- random lists
 
 
 def random_value(pick, nibble):
-    if pick.random() < 0.1:
+    if pick.random() < 0.13:
         shape = pick.choice(SHAPES)
         return shape, [1, 2, 3, 255] if shape == "bytes" else FLOATS[2 : 2 + SHAPES.index(shape)]
     return value_for(nibble, pick.randrange(len(FLOATS)))
 
 
 def random_given(pick):
-    if pick.random() < 0.2:
+    if pick.random() < 0.27:
         return "add_geometry", *pick.choice(list(wrong_geometries()))[1:]
-    return added_geometry(random_geometry(pick))
+    name, g = added_geometry(random_geometry(pick))
+    return name, g._replace(indices=tuple(random_doubled(pick, g.indices))) if pick.random() < 0.03 else g
+
+
+def random_replacement(pick, count):
+    """Mostly sound; two equal indices in a triangle, an index that is too great, and wrong numbers of indices are given too."""
+    indices = random_indices(pick, count, 2)
+    if pick.random() < 0.1:
+        indices = random_doubled(pick, indices)
+    if pick.random() < 0.1:
+        indices[pick.randrange(6)] = count
+    return indices[: pick.choice([3, 3, 6, 6, 6, 0, 4])]
 
 
 def random_operation(pick, made):
     """Mostly about things that are there; one beyond the last is asked for too."""
     hall = made.hall
-    kinds = ["model"] * 2 + ["given"] * 6 + ["set"] * 6 + ["indices"] * 4 + ["take"] * 2 + ["save"] * 4 + ["image"] * 2 + ["remove model"] + ["remove geometry"] * 2
+    kinds = ["model"] * 2 + ["given"] * 10 + ["set"] * 9 + ["indices"] * 7 + ["take"] * 2 + ["save"] * 5 + ["image"] * 3 + ["remove model"] + ["remove geometry"] * 3
     kind = pick.choice(kinds if any(model.geometries for model in hall) else ["model"] * 3 + ["given"] * 4 * len(hall[:1]) + ["take", "save", pick.choice(kinds)])
     full = [i for i, model in enumerate(hall) if model.geometries]
     number = pick.choice(full) if full and kind != "remove model" and pick.random() < 0.9 else pick.randrange(len(hall) + (pick.random() < 0.2 or not hall))
@@ -505,7 +577,7 @@ def random_operation(pick, made):
         semantic, nibble, _ = pick.choice(components_of(g.declaration.flags, g.declaration.types))
         return "set_attribute", number, place, pick.randrange(count + (pick.random() < 0.05)), semantic, random_value(pick, nibble)
     if kind == "indices":
-        return "replace_indices", number, place, [pick.randrange(count + (pick.random() < 0.02)) for _ in range(pick.choice([3, 3, 6, 6, 6, 0, 4]))]
+        return "replace_indices", number, place, random_replacement(pick, count)
     if kind == "save":
         return "save", pick.choice([0, 0, 0, 5, 900, -1, -16])
     if kind == "image":
@@ -521,7 +593,7 @@ def random_operation(pick, made):
 def random_lists():
     """Seeded, so that they are the same each time."""
     pick = random.Random(7)
-    for _ in range(220):
+    for _ in range(280):
         made, operations = CallList(ROOM), []
         for _ in range(pick.randrange(1, 31)):
             name, *arguments = operation = random_operation(pick, made)
@@ -535,6 +607,7 @@ sounding_lists()
 old_hall_lists()
 edit_lists()
 taking_lists()
+triangle_lists()
 limit_lists()
 random_lists()
 for name, numbers in POSSIBLE.items():
