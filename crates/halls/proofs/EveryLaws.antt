@@ -1,13 +1,30 @@
 -- Tests and properties of every element of a list.
-use mathlib.Core.Path.{_≡_, refl}
-use mathlib.Core.Bool.{Bool, true}
-use mathlib.Core.List.{List, [], _∷_}
+use mathlib.Core.Path.{_≡_, refl, ap, _∙_}
+use mathlib.Core.Bool.{Bool, true, false, _&&_}
+use mathlib.Core.List.{List, [], _∷_, _++_}
 use Prim.Native.Nat.{ℕ, zero, suc, _<_}
 use lib.ListN.{getD}
 use Rattle.sections.proofs.AddressLaws.{both-true}
 use Rattle.halls.specs.Every.{every, Each}
 
+and-assoc : (a b c : Bool) → (a && (b && c)) ≡ ((a && b) && c)
+and-assoc true b c = refl
+and-assoc false b c = refl
+
+pub and-true : (b : Bool) → (b && true) ≡ b
+and-true true = refl
+and-true false = refl
+
+pub and-false : (b : Bool) → (b && false) ≡ false
+and-false true = refl
+and-false false = refl
+
 module _ {A : Type 0} where
+  pub every-append : (test : A → Bool) (xs ys : List A) → every test (xs ++ ys) ≡ (every test xs && every test ys)
+  unfolding every
+  every-append test [] ys = refl
+  every-append test (x ∷ xs) ys = ap (λ (b : Bool). test x && b) (every-append test xs ys) ∙ and-assoc (test x) (every test xs) (every test ys)
+
   pub every-each : (test : A → Bool) (xs : List A) → every test xs ≡ true → Each (λ (x : A). test x ≡ true) xs
   unfolding every Each
   every-each test [] e = tt

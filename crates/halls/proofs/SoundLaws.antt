@@ -15,7 +15,7 @@ use Rattle.vertices.specs.declared.declaration.VertexDeclaration.{VertexDeclara
 use Rattle.vertices.specs.declared.types.VertexComponent.{VertexComponent}
 use Rattle.halls.specs.Every.{every, Each}
 use Rattle.halls.specs.Hall.{FullGeometry, FullModel, Hall}
-use Rattle.halls.specs.Checks.{vertexBytesExact, sameNumbers, shaderIds, mappingMatches, countsWithinLimits, stridesAgree, hasSize, componentsInside, vertexCountsAgree, held, indexCountsAgree, indicesInRange, imageWithinLimit, require, everyGeometry, verdict}
+use Rattle.halls.specs.Checks.{vertexBytesExact, sameNumbers, shaderIds, mappingMatches, countsWithinLimits, stridesAgree, hasSize, componentsInside, vertexCountsAgree, held, indexCountsAgree, indicesInRange, trianglesOf, hasThreeVertices, trianglesDistinct, imageWithinLimit, require, everyGeometry, verdict}
 use Rattle.halls.specs.declared.check.check.Verdict.{Verdict}
 use Rattle.halls.specs.declared.check.check.Verdict.the-variants.{Sound}
 
@@ -30,6 +30,7 @@ pub record SoundHall (h : Hall) : Type 0 where
   pub vertex-counts : everyGeometry vertexCountsAgree h ≡ true
   pub index-counts : everyGeometry indexCountsAgree h ≡ true
   pub indices : everyGeometry indicesInRange h ≡ true
+  pub triangles : everyGeometry trianglesDistinct h ≡ true
   pub image : imageWithinLimit h ≡ true
 
 pub required : (check : ℕ) (t : Bool) (next : Verdict) → require check t next ≡ Sound → (t ≡ true) × (next ≡ Sound)
@@ -47,7 +48,8 @@ verdict-sound h e =
     let g = required 16 (everyGeometry vertexCountsAgree h) _ (f .1) in
     let i = required 17 (everyGeometry indexCountsAgree h) _ (g .1) in
     let j = required 18 (everyGeometry indicesInRange h) _ (i .1) in
-    let k = required 19 (imageWithinLimit h) Sound (j .1) in
+    let l = required 27 (everyGeometry trianglesDistinct h) _ (j .1) in
+    let k = required 19 (imageWithinLimit h) Sound (l .1) in
     record {
       vertex-bytes = a .0;
       mappings = b .0;
@@ -57,13 +59,14 @@ verdict-sound h e =
       vertex-counts = g .0;
       index-counts = i .0;
       indices = j .0;
+      triangles = l .0;
       image = k .0;
     }
 
 pub sound-verdict : (h : Hall) → SoundHall h → verdict h ≡ Sound
 unfolding verdict
 sound-verdict h w =
-    rw (w .vertex-bytes, w .mappings, w .counts, w .strides, w .components, w .vertex-counts, w .index-counts, w .indices, w .image)
+    rw (w .vertex-bytes, w .mappings, w .counts, w .strides, w .components, w .vertex-counts, w .index-counts, w .indices, w .triangles, w .image)
 
 -- ---- one geometry
 
@@ -83,6 +86,7 @@ pub record SoundGeometry (g : FullGeometry) : Type 0 where
   pub thirds : held g ≡ 3 * g .triangleCount
   pub some-indices : 3 ≤ held g
   pub in-range : every (λ (i : ℕ). ltb i (g .vertices .count)) (g .indices .items) ≡ true
+  pub three-vertices : every hasThreeVertices (trianglesOf (g .indices .items)) ≡ true
 
 -- a position with a size is within the components' total
 sized : (d : VertexDeclaration) (o : Option VertexComponent) → componentOf d 0 ≡ o → hasSize o ≡ true → 0 < totalSize d
@@ -90,9 +94,9 @@ sized d none e h = absurd (subst T (sym h) tt)
 sized d (some c) e h = let p : 0 < c .size = ltb-true 0 (c .size) h in omega (arith, found-within d 0 c e)
 
 pub sound-geometry : (g : FullGeometry) → vertexBytesExact g ≡ true → stridesAgree g ≡ true → componentsInside g ≡ true → vertexCountsAgree g ≡ true → indexCountsAgree g ≡ true
-    → indicesInRange g ≡ true → SoundGeometry g
-unfolding vertexBytesExact stridesAgree componentsInside vertexCountsAgree indexCountsAgree indicesInRange
-sound-geometry g a b c d e f =
+    → indicesInRange g ≡ true → trianglesDistinct g ≡ true → SoundGeometry g
+unfolding vertexBytesExact stridesAgree componentsInside vertexCountsAgree indexCountsAgree indicesInRange trianglesDistinct
+sound-geometry g a b c d e f t =
     let b1 = both-true (eqb (g .vertices .layout) 0) _ b in
     let b2 = both-true (eqb (g .declaration .stride) (g .stride)) (eqb (g .vertices .stride) (g .stride)) (b1 .1) in
     let c1 = both-true (hasSize (componentOf (g .declaration) 0)) (leb (totalSize (g .declaration)) (g .stride)) c in
@@ -117,6 +121,7 @@ sound-geometry g a b c d e f =
       thirds = eqb-true (held g) (3 * g .triangleCount) (e3 .0);
       some-indices = leb-true 3 (held g) (e3 .1);
       in-range = f;
+      three-vertices = t;
     }
 
 -- ---- all of them
@@ -135,23 +140,24 @@ same-numbers (x ∷ xs) (y ∷ ys) e =
     rw (eqb-true x y (b .0), same-numbers xs ys (b .1))
 
 sound-geometries : (gs : List FullGeometry) → every vertexBytesExact gs ≡ true → every stridesAgree gs ≡ true → every componentsInside gs ≡ true → every vertexCountsAgree gs ≡ true
-    → every indexCountsAgree gs ≡ true → every indicesInRange gs ≡ true → Each SoundGeometry gs
+    → every indexCountsAgree gs ≡ true → every indicesInRange gs ≡ true → every trianglesDistinct gs ≡ true → Each SoundGeometry gs
 unfolding every Each
-sound-geometries [] a b c d e f = tt
-sound-geometries (g ∷ gs) a b c d e f =
+sound-geometries [] a b c d e f t = tt
+sound-geometries (g ∷ gs) a b c d e f t =
     let a1 = both-true (vertexBytesExact g) (every vertexBytesExact gs) a in
     let b1 = both-true (stridesAgree g) (every stridesAgree gs) b in
     let c1 = both-true (componentsInside g) (every componentsInside gs) c in
     let d1 = both-true (vertexCountsAgree g) (every vertexCountsAgree gs) d in
     let e1 = both-true (indexCountsAgree g) (every indexCountsAgree gs) e in
     let f1 = both-true (indicesInRange g) (every indicesInRange gs) f in
-    (sound-geometry g (a1 .0) (b1 .0) (c1 .0) (d1 .0) (e1 .0) (f1 .0), sound-geometries gs (a1 .1) (b1 .1) (c1 .1) (d1 .1) (e1 .1) (f1 .1))
+    let t1 = both-true (trianglesDistinct g) (every trianglesDistinct gs) t in
+    (sound-geometry g (a1 .0) (b1 .0) (c1 .0) (d1 .0) (e1 .0) (f1 .0) (t1 .0), sound-geometries gs (a1 .1) (b1 .1) (c1 .1) (d1 .1) (e1 .1) (f1 .1) (t1 .1))
 
 models-sound : (h : Hall) → every mappingMatches h ≡ true → everyGeometry vertexBytesExact h ≡ true → everyGeometry stridesAgree h ≡ true → everyGeometry componentsInside h ≡ true
-    → everyGeometry vertexCountsAgree h ≡ true → everyGeometry indexCountsAgree h ≡ true → everyGeometry indicesInRange h ≡ true → Each SoundModel h
+    → everyGeometry vertexCountsAgree h ≡ true → everyGeometry indexCountsAgree h ≡ true → everyGeometry indicesInRange h ≡ true → everyGeometry trianglesDistinct h ≡ true → Each SoundModel h
 unfolding every Each mappingMatches
-models-sound [] m a b c d e f = tt
-models-sound (x ∷ xs) m a b c d e f =
+models-sound [] m a b c d e f t = tt
+models-sound (x ∷ xs) m a b c d e f t =
     let gs : List FullGeometry = x .geometries in
     let m1 = both-true (sameNumbers (x .mapping) (shaderIds gs)) (every mappingMatches xs) m in
     let a1 = both-true (every vertexBytesExact gs) (everyGeometry vertexBytesExact xs) a in
@@ -159,10 +165,11 @@ models-sound (x ∷ xs) m a b c d e f =
     let c1 = both-true (every componentsInside gs) (everyGeometry componentsInside xs) c in
     let d1 = both-true (every vertexCountsAgree gs) (everyGeometry vertexCountsAgree xs) d in
     let e1 = both-true (every indexCountsAgree gs) (everyGeometry indexCountsAgree xs) e in
-    let f1 = both-true (every indicesInRange gs) (everyGeometry indicesInRange xs) f in (
-      record { mapping = same-numbers (x .mapping) (shaderIds gs) (m1 .0); geometries = sound-geometries gs (a1 .0) (b1 .0) (c1 .0) (d1 .0) (e1 .0) (f1 .0) },
-      models-sound xs (m1 .1) (a1 .1) (b1 .1) (c1 .1) (d1 .1) (e1 .1) (f1 .1),
+    let f1 = both-true (every indicesInRange gs) (everyGeometry indicesInRange xs) f in
+    let t1 = both-true (every trianglesDistinct gs) (everyGeometry trianglesDistinct xs) t in (
+      record { mapping = same-numbers (x .mapping) (shaderIds gs) (m1 .0); geometries = sound-geometries gs (a1 .0) (b1 .0) (c1 .0) (d1 .0) (e1 .0) (f1 .0) (t1 .0) },
+      models-sound xs (m1 .1) (a1 .1) (b1 .1) (c1 .1) (d1 .1) (e1 .1) (f1 .1) (t1 .1),
     )
 
 pub sound-models : (h : Hall) → SoundHall h → Each SoundModel h
-sound-models h w = models-sound h (w .mappings) (w .vertex-bytes) (w .strides) (w .components) (w .vertex-counts) (w .index-counts) (w .indices)
+sound-models h w = models-sound h (w .mappings) (w .vertex-bytes) (w .strides) (w .components) (w .vertex-counts) (w .index-counts) (w .indices) (w .triangles)

@@ -1,5 +1,5 @@
--- Checks 11 to 19 (document 01, "Questions at the door"): what each asks of a hall's list, and the verdict.
-use mathlib.Core.Bool.{Bool, true, false, _&&_}
+-- Checks 11 to 19 (document 01, "Questions at the door") and 27 (document 02, N7): what each asks of a hall's list, and the verdict.
+use mathlib.Core.Bool.{Bool, true, false, _&&_, not}
 use mathlib.Core.List.{List, [], _∷_, map}
 use mathlib.Core.Option.{Option, none, some}
 use Prim.Native.Nat.{ℕ, _*_}
@@ -13,6 +13,7 @@ use Rattle.halls.specs.ImageSize.{imageSize}
 use Rattle.halls.specs.Parsing.{parse}
 use Rattle.halls.specs.declared.check.check.Verdict.{Verdict}
 use Rattle.halls.specs.declared.check.check.Verdict.the-variants.{Sound, Fails}
+use Rattle.halls.specs.declared.check.triangle.Triangle.{Triangle}
 
 -- 11. Given vertex bytes = count × stride? (In a list that parses they are.)
 unfoldable pub vertexBytesExact : FullGeometry → Bool
@@ -65,6 +66,19 @@ indexCountsAgree g = eqb (g .indexCount) (held g) && (eqb (g .indices .count) (h
 unfoldable pub indicesInRange : FullGeometry → Bool
 indicesInRange g = every (λ (i : ℕ). ltb i (g .vertices .count)) (g .indices .items)
 
+-- 27. No triangle with two equal indices? A triangle is three of them; one or two at the end make none.
+unfoldable pub trianglesOf : List ℕ → List Triangle
+trianglesOf [] = []
+trianglesOf (a ∷ []) = []
+trianglesOf (a ∷ b ∷ []) = []
+trianglesOf (a ∷ b ∷ c ∷ xs) = record { a = a; b = b; c = c } ∷ trianglesOf xs
+
+unfoldable pub hasThreeVertices : Triangle → Bool
+hasThreeVertices t = not (eqb (t .a) (t .b)) && (not (eqb (t .b) (t .c)) && not (eqb (t .a) (t .c)))
+
+unfoldable pub trianglesDistinct : FullGeometry → Bool
+trianglesDistinct g = every hasThreeVertices (trianglesOf (g .indices .items))
+
 -- 19. Image at most 67,108,864 bytes?
 unfoldable pub imageWithinLimit : Hall → Bool
 imageWithinLimit h = leb (imageSize h) 67108864
@@ -88,8 +102,9 @@ verdict h =
     (require 16 (everyGeometry vertexCountsAgree h)
     (require 17 (everyGeometry indexCountsAgree h)
     (require 18 (everyGeometry indicesInRange h)
+    (require 27 (everyGeometry trianglesDistinct h)
     (require 19 (imageWithinLimit h)
-    Sound))))))))
+    Sound)))))))))
 
 abbrev pub judged : Option Hall → Verdict
 judged none = Fails 11

@@ -2,7 +2,9 @@
 pub mod View
 pub mod Measure
 pub mod HallRecords
+pub mod Order
 pub mod Judging
+pub mod Counting
 pub mod Walk
 pub mod Seeking
 pub mod NewIndices

@@ -10,7 +10,7 @@ use Rattle.vertices.specs.Declaration.{InWidth, positionOnly, declarationAt, de
 use Rattle.vertices.specs.Runs.{numbers, run}
 use Rattle.vertices.specs.Types.{componentType, semanticOf}
 use Rattle.halls.specs.Calls.{Given, Call, addModel, addGeometry, proposed}
-use Rattle.halls.specs.Checks.{vertexBytesExact, sameNumbers, mappingMatches, geometryCount, countsWithinLimits, stridesAgree, componentsInside, vertexCountsAgree, indexCountsAgree, indicesInRange, imageWithinLimit, verdict, hallVerdict}
+use Rattle.halls.specs.Checks.{vertexBytesExact, sameNumbers, mappingMatches, geometryCount, countsWithinLimits, stridesAgree, componentsInside, vertexCountsAgree, indexCountsAgree, indicesInRange, trianglesOf, hasThreeVertices, trianglesDistinct, imageWithinLimit, verdict, hallVerdict}
 use Rattle.halls.specs.Every.{every, sumOf, Each}
 use Rattle.halls.specs.Hall.{hallBytes}
 use Rattle.halls.specs.ImageSize.{geometrySize, modelSize, imageSize}
@@ -69,10 +69,10 @@ twoCalls = record {
 }
 
 pub both-accepted : (modelAdded .answer ≡ Accepted 12) × (geometryAdded .answer ≡ Accepted 127)
-unfolding modelAdded geometryAdded madeOf buffer triangle stepIn rewritten hallVerdict parse structured whole records firstRecords frontRecord bodyLength recordsLength ordered follows mayEnd dueLength exact every modelsIn geometriesIn verdict vertexBytesExact mappingMatches sameNumbers countsWithinLimits geometryCount stridesAgree componentsInside vertexCountsAgree indexCountsAgree indicesInRange imageWithinLimit imageSize modelSize geometrySize sumOf proposed hallOf stateOf stateBytes hallBytes each writeModel writeGeometry modelRecord geometryRecord declarationRecord verticesRecord indicesRecord recordBytes bytes run le field part numbers declarationAt declarationBytes componentsFrom componentsOf componentOf withIndex sizes totalSize componentType semanticOf
+unfolding modelAdded geometryAdded madeOf buffer triangle stepIn rewritten hallVerdict parse structured whole records firstRecords frontRecord bodyLength recordsLength ordered follows mayEnd dueLength exact every modelsIn geometriesIn verdict vertexBytesExact mappingMatches sameNumbers countsWithinLimits geometryCount stridesAgree componentsInside vertexCountsAgree indexCountsAgree indicesInRange trianglesDistinct trianglesOf hasThreeVertices imageWithinLimit imageSize modelSize geometrySize sumOf proposed hallOf stateOf stateBytes hallBytes each writeModel writeGeometry modelRecord geometryRecord declarationRecord verticesRecord indicesRecord recordBytes bytes run le field part numbers declarationAt declarationBytes componentsFrom componentsOf componentOf withIndex sizes totalSize componentType semanticOf
 both-accepted = (refl, refl)
 
 -- the hall's length, and that of the image that the claim speaks of
 pub its-lengths : (nOf twoCalls ≡ 127) × (length (imageOf twoCalls) ≡ 576)
-unfolding twoCalls nAfter stateAfter step modelAdded geometryAdded madeOf buffer triangle stepIn rewritten hallVerdict parse structured whole records firstRecords frontRecord bodyLength recordsLength ordered follows mayEnd dueLength exact every modelsIn geometriesIn verdict vertexBytesExact mappingMatches sameNumbers countsWithinLimits geometryCount stridesAgree componentsInside vertexCountsAgree indexCountsAgree indicesInRange imageWithinLimit imageSize modelSize geometrySize sumOf proposed hallOf stateOf stateBytes hallBytes each writeModel writeGeometry modelRecord geometryRecord declarationRecord verticesRecord indicesRecord recordBytes bytes run le field part numbers declarationAt declarationBytes componentsFrom componentsOf componentOf withIndex sizes totalSize componentType semanticOf headerBytes modelBlockBytes geometryBlockBytes vertexBlockBytes indexBlockBytes filled laid addresses geometryBlockOf vertexBlockOf indexBlockOf geometryImage modelBlockOf modelImage image overwrite
+unfolding twoCalls nAfter stateAfter step modelAdded geometryAdded madeOf buffer triangle stepIn rewritten hallVerdict parse structured whole records firstRecords frontRecord bodyLength recordsLength ordered follows mayEnd dueLength exact every modelsIn geometriesIn verdict vertexBytesExact mappingMatches sameNumbers countsWithinLimits geometryCount stridesAgree componentsInside vertexCountsAgree indexCountsAgree indicesInRange trianglesDistinct trianglesOf hasThreeVertices imageWithinLimit imageSize modelSize geometrySize sumOf proposed hallOf stateOf stateBytes hallBytes each writeModel writeGeometry modelRecord geometryRecord declarationRecord verticesRecord indicesRecord recordBytes bytes run le field part numbers declarationAt declarationBytes componentsFrom componentsOf componentOf withIndex sizes totalSize componentType semanticOf headerBytes modelBlockBytes geometryBlockBytes vertexBlockBytes indexBlockBytes filled laid addresses geometryBlockOf vertexBlockOf indexBlockOf geometryImage modelBlockOf modelImage image overwrite
 its-lengths = (refl, refl)

@@ -12,10 +12,10 @@ use Rattle.halls.specs.Every.{every, sumOf}
 use Rattle.halls.specs.Checks.{sameNumbers, mappingMatches, geometryCount, countsWithinLimits, imageWithinLimit, verdict, judged, hallVerdict}
 use Rattle.halls.specs.Hall.{Hall}
 use Rattle.halls.specs.ImageSize.{geometrySize, imageSize}
-use Rattle.halls.specs.Inner.Judging.{passed}
+use Rattle.halls.specs.Inner.Order.{passed, tooLarge, failing, verdictOf}
 use Rattle.halls.specs.Parsing.{recordsLength, whole, follows, mayEnd, ordered, geometriesIn, modelsIn, structured, parse}
 use Rattle.halls.specs.Records.{Record, records}
-use Rattle.halls.specs.Inner.Walk.{wellFrom, failing, lowestFrom, kindCount, units, unitsFrom, leftOf, beforeOf, Walked, verdictOf, limitsLowest, summaryOf, Examined, ExaminedFirst}
+use Rattle.halls.specs.Inner.Walk.{wellFrom, lowestFrom, kindCount, units, unitsFrom, leftOf, beforeOf, Walked, limitsLowest, summaryOf, Examined, ExaminedFirst}
 use Rattle.halls.specs.declared.check.check.Verdict.the-variants.{Sound, Fails}
 use Rattle.halls.specs.declared.check.pass.Summary.{Summary}
 use Rattle.halls.specs.declared.check.pass.Tally.{Tally}
@@ -47,7 +47,7 @@ unfolding ordered follows geometriesIn
 no-geometry-first [] e = refl
 no-geometry-first (r ∷ rs) e = rw (both-true (eqb (r .kind) 1) _ e .0)
 
-pub limits-low : (counts image : Bool) → (13 ≤ cond counts (failing 19 image) 13) × (cond counts (failing 19 image) 13 ≤ passed)
+pub limits-low : (counts image : Bool) → (13 ≤ cond counts (failing tooLarge image) 13) × (cond counts (failing tooLarge image) 13 ≤ passed)
 limits-low true true = (omega arith, omega arith)
 limits-low true false = (omega arith, omega arith)
 limits-low false image = (omega arith, omega arith)

@@ -20,11 +20,11 @@ use Rattle.vertices.specs.Runs.{numbers}
 use Rattle.vertices.specs.declared.declaration.FoundComponent.the-variants.{Component, Missing}
 use Rattle.vertices.specs.declared.types.VertexComponent.{VertexComponent}
 use Rattle.vertices.proofs.RunLaws.{numbers-getD, numbers-length}
-use Rattle.halls.specs.Checks.{stridesAgree, componentsInside, vertexCountsAgree, indexCountsAgree, indicesInRange, hasSize}
-use Rattle.halls.specs.Every.{every}
+use Rattle.halls.specs.Checks.{stridesAgree, componentsInside, vertexCountsAgree, indexCountsAgree, indicesInRange, trianglesDistinct, hasSize}
 use Rattle.halls.specs.Hall.{FullGeometry}
 use Rattle.halls.specs.Fronts.{GeometryFront, frontGeometry}
-use Rattle.halls.specs.Inner.Judging.{insideStride, HeadJudged, HeadTested, headOf, lowestOf, passed}
+use Rattle.halls.specs.Inner.Judging.{insideStride, HeadJudged, HeadTested, headOf, indicesLowest, indicesLowestOf, lowestOf}
+use Rattle.halls.specs.Inner.Order.{passed}
 use Rattle.halls.specs.Triangles.{heldCount}
 use Rattle.halls.specs.declared.check.geometry.GeometryHead.{GeometryHead}
 
@@ -169,11 +169,6 @@ module _ {s : List ℕ} {content held : ℕ} (f : GeometryFront s content held) 
         front-held,
       )
 
-  -- check 18 of it is that of the indices from their place on
-  front-range : {limit : ℕ} {t : Bool} → limit ≡ g .vertices .count → t ≡ every (λ (i : ℕ). ltb i limit) (numbers 4 held (drop (65 + content) s)) → t ≡ indicesInRange g
-  unfolding indicesInRange
-  front-range {limit} {t} e q = rw (← e, items-are) q
-
 -- ---- checks 14 to 17 of the numbers
 
 abbrev stridesTest : GeometryHead → Bool
@@ -231,50 +226,67 @@ module _ {h : GeometryHead} where
 abbrev chain : Bool → Bool → Bool → Bool → ℕ → ℕ
 chain a b c d next = cond a (cond b (cond c (cond d next 17) 16) 15) 14
 
-chain-stops : (a b c d : Bool) (next : ℕ) → (chain a b c d 20 ≡ 20 → ⊥) → chain a b c d 20 ≡ chain a b c d next
+chain-stops : (a b c d : Bool) (next : ℕ) → (chain a b c d passed ≡ passed → ⊥) → chain a b c d passed ≡ chain a b c d next
 chain-stops false b c d next f = refl
 chain-stops true false c d next f = refl
 chain-stops true true false d next f = refl
 chain-stops true true true false next f = refl
 chain-stops true true true true next f = absurd (f refl)
 
-chain-passes : (a b c d : Bool) (next : ℕ) → chain a b c d 20 ≡ 20 → next ≡ chain a b c d next
+chain-passes : (a b c d : Bool) (next : ℕ) → chain a b c d passed ≡ passed → next ≡ chain a b c d next
 chain-passes false b c d next e = absurd (omega (arith, e))
 chain-passes true false c d next e = absurd (omega (arith, e))
 chain-passes true true false d next e = absurd (omega (arith, e))
 chain-passes true true true false next e = absurd (omega (arith, e))
 chain-passes true true true true next e = refl
 
-chain-counts : (a b c d : Bool) → chain a b c d 20 ≡ 20 → c ≡ true
+chain-counts : (a b c d : Bool) → chain a b c d passed ≡ passed → (c ≡ true) × (d ≡ true)
 chain-counts false b c d e = absurd (omega (arith, e))
 chain-counts true false c d e = absurd (omega (arith, e))
 chain-counts true true false d e = absurd (omega (arith, e))
-chain-counts true true true d e = refl
+chain-counts true true true false e = absurd (omega (arith, e))
+chain-counts true true true true e = (refl, refl)
 
 module _ (g : FullGeometry) {h : GeometryHead} {r : ℕ} (e : h ≡ headOf g) (j : HeadJudged h r) where
   -- one of checks 14 to 17 fails
-  pub lowest-head : (r ≡ 20 → ⊥) → r ≡ lowestOf g
+  pub lowest-head : (r ≡ passed → ⊥) → r ≡ lowestOf g
   unfolding lowestOf
   lowest-head f =
       let q = j .lowest g e in
-      q ∙ chain-stops (stridesAgree g) (componentsInside g) (vertexCountsAgree g) (indexCountsAgree g) (cond (indicesInRange g) 20 18) (λ z. f (q ∙ z))
+      q ∙ chain-stops (stridesAgree g) (componentsInside g) (vertexCountsAgree g) (indexCountsAgree g) (indicesLowest g) (λ z. f (q ∙ z))
 
-  -- none of them does: the vertex counts agree, and check 18 decides
-  pub lowest-counts : r ≡ 20 → g .vertexCount ≡ g .vertices .count
-  unfolding vertexCountsAgree
-  lowest-counts z =
-      let agree = chain-counts (stridesAgree g) (componentsInside g) (vertexCountsAgree g) (indexCountsAgree g) (sym (j .lowest g e) ∙ z) in
-      eqb-true (g .vertexCount) (g .vertices .count) (both-true (eqb (g .vertexCount) (g .vertices .count)) _ agree .0)
+  -- none of them does: the vertex counts agree, the indices make whole triangles, and checks 18 and 27 decide
+  module _ (z : r ≡ passed) where
+    agree : (vertexCountsAgree g ≡ true) × (indexCountsAgree g ≡ true)
+    agree = chain-counts (stridesAgree g) (componentsInside g) (vertexCountsAgree g) (indexCountsAgree g) (sym (j .lowest g e) ∙ z)
 
-  pub lowest-range : r ≡ 20 → cond (indicesInRange g) 20 18 ≡ lowestOf g
-  unfolding lowestOf
-  lowest-range z =
-      chain-passes (stridesAgree g) (componentsInside g) (vertexCountsAgree g) (indexCountsAgree g) (cond (indicesInRange g) 20 18) (sym (j .lowest g e) ∙ z)
+    pub lowest-vertices : g .vertexCount ≡ g .vertices .count
+    unfolding vertexCountsAgree
+    lowest-vertices = eqb-true (g .vertexCount) (g .vertices .count) (both-true (eqb (g .vertexCount) (g .vertices .count)) _ (agree .0) .0)
 
--- so of the geometry at the front: what the scan of its indices answers
-pub lowest-scanned : {s : List ℕ} {content held : ℕ} → GeometryFront s content held → {h : GeometryHead} {r : ℕ} {t : Bool} → h ≡ headOf (frontGeometry s) → HeadJudged h r → r ≡ 20
-    → t ≡ every (λ (i : ℕ). ltb i (h .«vertices_count»)) (numbers 4 held (drop (65 + content) s)) → cond t 20 18 ≡ lowestOf (frontGeometry s)
-lowest-scanned {s} f e j z q = rw (front-range f (ap (λ (h : GeometryHead). h .«vertices_count») e) q) (lowest-range (frontGeometry s) e j z)
+    pub lowest-triangles : length (g .indices .items) ≡ 3 * g .triangleCount
+    unfolding indexCountsAgree
+    lowest-triangles =
+        let n = length (g .indices .items) in
+        let own = both-true (eqb (g .indexCount) n) _ (agree .1) .1 in
+        let both = both-true (eqb (g .indices .count) n) _ own .1 in
+        eqb-true n (3 * g .triangleCount) (both-true (eqb n (3 * g .triangleCount)) _ both .0)
+
+    pub lowest-scanned : {t : ℕ} → t ≡ indicesLowestOf (g .vertices .count) (g .indices .items) → t ≡ lowestOf g
+    unfolding lowestOf indicesLowestOf indicesInRange trianglesDistinct
+    lowest-scanned q = q ∙ chain-passes (stridesAgree g) (componentsInside g) (vertexCountsAgree g) (indexCountsAgree g) (indicesLowest g) (sym (j .lowest g e) ∙ z)
+
+-- so of the geometry at the front, whose indices stand behind its vertex bytes
+module _ {s : List ℕ} {content held : ℕ} (f : GeometryFront s content held) {h : GeometryHead} {r : ℕ} (e : h ≡ headOf (frontGeometry s)) (j : HeadJudged h r) (z : r ≡ passed) where
+  pub front-triangles : held ≡ 3 * h .«triangle_count»
+  front-triangles =
+      sym (ap length (items-are f) ∙ numbers-length 4 held (drop (65 + content) s)) ∙ lowest-triangles (frontGeometry s) e j z ∙ ap (λ (x : GeometryHead). 3 * x .«triangle_count») (sym e)
+
+  pub front-scanned : {t : ℕ} → t ≡ indicesLowestOf (h .«vertices_count») (numbers 4 (3 * h .«triangle_count») (drop (65 + content) s)) → t ≡ lowestOf (frontGeometry s)
+  front-scanned q =
+      let limit : h .«vertices_count» ≡ frontGeometry s .vertices .count = ap (λ (x : GeometryHead). x .«vertices_count») e in
+      let items : numbers 4 (3 * h .«triangle_count») (drop (65 + content) s) ≡ frontGeometry s .indices .items = ap (λ (n : ℕ). numbers 4 n (drop (65 + content) s)) (sym front-triangles) ∙ sym (items-are f) in
+      lowest-scanned (frontGeometry s) e j z (q ∙ rw (limit, items) refl)
 
 -- ---- the position
 

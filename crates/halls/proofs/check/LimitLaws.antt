@@ -7,10 +7,11 @@ use borrow.Author.Tests.{le-leb, lt-leb, leb-true, leb-false}
 use lib.Dec.{leb}
 use lib.ListN.{length}
 use Rattle.halls.specs.Every.{every}
-use Rattle.halls.specs.Checks.{vertexBytesExact, mappingMatches, geometryCount, countsWithinLimits, stridesAgree, componentsInside, vertexCountsAgree, indexCountsAgree, indicesInRange, imageWithinLimit, require, everyGeometry, verdict}
+use Rattle.halls.specs.Checks.{vertexBytesExact, mappingMatches, geometryCount, countsWithinLimits, stridesAgree, componentsInside, vertexCountsAgree, indexCountsAgree, indicesInRange, trianglesDistinct, imageWithinLimit, require, everyGeometry, verdict}
 use Rattle.halls.specs.Hall.{Hall}
 use Rattle.halls.specs.ImageSize.{imageSize}
-use Rattle.halls.specs.Inner.Walk.{units, failing, verdictOf, limitsLowest}
+use Rattle.halls.specs.Inner.Order.{tooLarge, failing, verdictOf}
+use Rattle.halls.specs.Inner.Walk.{units, limitsLowest}
 use Rattle.halls.specs.declared.check.check.Verdict.the-variants.{Sound}
 
 pub sixteenth : (x : ℕ) → leb (16 * x) 67108864 ≡ leb x 4194304
@@ -22,7 +23,7 @@ sixteenth x = on (leb x 4194304) refl
 
 -- by the whole hall's limits
 abbrev pub wholeLowest : Hall → ℕ
-wholeLowest h = cond (countsWithinLimits h) (failing 19 (imageWithinLimit h)) 13
+wholeLowest h = cond (countsWithinLimits h) (failing tooLarge (imageWithinLimit h)) 13
 
 pub limits-of : (h : Hall) (models geometries parts : ℕ) → models ≡ length h → geometries ≡ geometryCount h → 16 * (1 + units (8 * models) + parts) ≡ imageSize h
     → limitsLowest models geometries parts ≡ wholeLowest h
@@ -38,8 +39,9 @@ pub record EachPasses (h : Hall) : Type 0 where
   pub vertex-counts : everyGeometry vertexCountsAgree h ≡ true
   pub index-counts : everyGeometry indexCountsAgree h ≡ true
   pub indices : everyGeometry indicesInRange h ≡ true
+  pub triangles : everyGeometry trianglesDistinct h ≡ true
 
-by-limits : (counts image : Bool) → require 13 counts (require 19 image Sound) ≡ verdictOf (cond counts (failing 19 image) 13)
+by-limits : (counts image : Bool) → require 13 counts (require 19 image Sound) ≡ verdictOf (cond counts (failing tooLarge image) 13)
 by-limits true true = refl
 by-limits true false = refl
 by-limits false image = refl
@@ -47,4 +49,4 @@ by-limits false image = refl
 pub limits-verdict : (h : Hall) → EachPasses h → verdict h ≡ verdictOf (wholeLowest h)
 unfolding verdict
 limits-verdict h p =
-    rw (p .vertex-bytes, p .mappings, p .strides, p .components, p .vertex-counts, p .index-counts, p .indices) (by-limits (countsWithinLimits h) (imageWithinLimit h))
+    rw (p .vertex-bytes, p .mappings, p .strides, p .components, p .vertex-counts, p .index-counts, p .indices, p .triangles) (by-limits (countsWithinLimits h) (imageWithinLimit h))

@@ -1,128 +1,242 @@
--- A scan of indices: which of them are below the limit, block by block and one by one.
+-- A scan of triangles for checks 18 and 27: what the counts of a block say, and how blocks come together. The laws are over the list of indices,
+-- however wide these are stored.
 use mathlib.Core.Path.{_≡_, refl, sym, ap, subst, _∙_}
-use mathlib.Core.Bool.{Bool, true, false, _&&_}
+use mathlib.Core.Bool.{Bool, true, false, cond, _&&_, not}
 use mathlib.Core.List.{List, [], _∷_, _++_}
-use Prim.Native.Nat.{ℕ, _+_, _*_, _-_, _≤_, _<_}
+use Prim.Native.Nat.{ℕ, zero, suc, _+_, _*_, _-_, _≤_, min}
+use native.Mathlib.Nat.{add-zero}
+use native.Mathlib.Numerals.{add-one}
 use native.Mathlib.Omega.{arith}
-use borrow.Author.Tests.{eq-eqb, eqb-true, le-ltb, lt-ltb, ne-eqb}
+use borrow.Author.Tests.{eq-eqb, eqb-true, ne-eqb}
 use lib.Dec.{T, eqb, ltb}
-use lib.ListN.{drop}
-use lib.Seq.{drop-drop}
+use lib.ListN.{length, take, drop, length-append, length-drop, take-append-drop}
+use lib.Seq.{drop-drop, drop-cons, take-add, length-take-le}
 use Rattle.sections.specs.Edit.{part}
-use Rattle.sections.specs.Le.{le}
 use Rattle.vertices.specs.Runs.{numbers}
 use Rattle.vertices.proofs.RunLaws.{numbers-add}
+use Rattle.halls.specs.Checks.{trianglesOf, hasThreeVertices}
 use Rattle.halls.specs.Every.{every}
+use Rattle.halls.specs.Inner.Order.{passed}
+use Rattle.halls.specs.Inner.Judging.{indicesLowestOf}
+use Rattle.halls.specs.Inner.Counting.{triangleAt, lentTriangleAt, one, indicesBelow, equalPairs, countedLowest}
+use Rattle.halls.specs.declared.check.triangle.Triangle.{Triangle}
+use Rattle.halls.proofs.EveryLaws.{and-true, and-false, every-append}
 
--- ---- tests of every element
+-- a triangle's indices, and the triangles of whole ones one behind the other
+abbrev pub indicesOf : Triangle → List ℕ
+indicesOf t = t .a ∷ t .b ∷ t .c ∷ []
 
-and-assoc : (a b c : Bool) → (a && (b && c)) ≡ ((a && b) && c)
-and-assoc true b c = refl
-and-assoc false b c = refl
+triangles-append : (n : ℕ) (xs ys : List ℕ) → length xs ≡ 3 * n → trianglesOf (xs ++ ys) ≡ trianglesOf xs ++ trianglesOf ys
+unfolding trianglesOf
+triangles-append zero [] ys e = refl
+triangles-append zero (a ∷ xs) ys e = absurd (omega arith)
+triangles-append (suc n) [] ys e = absurd (omega arith)
+triangles-append (suc n) (a ∷ []) ys e = absurd (omega arith)
+triangles-append (suc n) (a ∷ b ∷ []) ys e = absurd (omega arith)
+triangles-append (suc n) (a ∷ b ∷ c ∷ xs) ys e = ap (λ (l : List Triangle). record { a = a; b = b; c = c } ∷ l) (triangles-append n xs ys (omega arith))
 
-pub and-true : (b : Bool) → (b && true) ≡ b
-and-true true = refl
-and-true false = refl
+abbrev inRange : ℕ → List ℕ → Bool
+inRange limit xs = every (λ (i : ℕ). ltb i limit) xs
 
-and-false : (b : Bool) → (b && false) ≡ false
-and-false true = refl
-and-false false = refl
+abbrev distinct : List ℕ → Bool
+distinct xs = every hasThreeVertices (trianglesOf xs)
 
-pub every-append : {A : Type 0} (test : A → Bool) (xs ys : List A) → every test (xs ++ ys) ≡ (every test xs && every test ys)
-unfolding every
-every-append test [] ys = refl
-every-append test (x ∷ xs) ys = ap (λ (b : Bool). test x && b) (every-append test xs ys) ∙ and-assoc (test x) (every test xs) (every test ys)
+distinct-append : (n : ℕ) (xs ys : List ℕ) → length xs ≡ 3 * n → distinct (xs ++ ys) ≡ (distinct xs && distinct ys)
+distinct-append n xs ys e = ap (every hasThreeVertices) (triangles-append n xs ys e) ∙ every-append hasThreeVertices (trianglesOf xs) (trianglesOf ys)
 
--- ---- the indices of some width from a place on
+-- ---- a block, counted
 
--- the first n are below the limit
-abbrev pub firstBelow : ℕ → List ℕ → ℕ → ℕ → ℕ → Bool
-firstBelow width s at limit n = every (λ (i : ℕ). ltb i limit) (numbers width n (drop at s))
-
-module _ (width : ℕ) (s : List ℕ) (at limit : ℕ) where
-  -- and then m more
-  first-add : (n m : ℕ) → firstBelow width s at limit (n + m) ≡ (firstBelow width s at limit n && firstBelow width s (at + n * width) limit m)
-  first-add n m =
-      ap (every (λ (i : ℕ). ltb i limit)) (numbers-add width n m (drop at s))
-      ∙ every-append (λ (i : ℕ). ltb i limit) (numbers width n (drop at s)) (numbers width m (drop (n * width) (drop at s)))
-      ∙ rw (drop-drop (n * width) at s)
-
-  first-none : firstBelow width s at limit 0 ≡ true
-  unfolding numbers every
-  first-none = refl
-
-  -- one
-  pub first-one : (v : ℕ) → v ≡ le (part s at width) → firstBelow width s at limit 1 ≡ ltb v limit
-  unfolding numbers every part
-  first-one v e = and-true (ltb (le (part s at width)) limit) ∙ ap (λ (x : ℕ). ltb x limit) (sym e)
-
--- ---- all indices passed were below
-
-pub record Below (width : ℕ) (s : List ℕ) (at count limit i : ℕ) : Type 0 where
-  pub low : i ≤ count
-  pub is : firstBelow width s at limit i ≡ true
-
-pub below-start : (width : ℕ) (s : List ℕ) (at count limit : ℕ) → Below width s at count limit 0
-below-start width s at count limit = record { low = omega arith; is = first-none width s at limit }
-
-module _ {width : ℕ} {s : List ℕ} {at count limit i : ℕ} (b : Below width s at count limit i) where
-  -- those from here on decide
-  pub below-rest : (n : ℕ) → i + n ≡ count → firstBelow width s (at + i * width) limit n ≡ firstBelow width s at limit count
-  below-rest n e = sym (ap (firstBelow width s at limit) (sym e) ∙ first-add width s at limit i n ∙ ap (λ (t : Bool). t && firstBelow width s (at + i * width) limit n) (b .is))
-
-  -- n more that are below
-  pub below-more : (n : ℕ) → i + n ≤ count → firstBelow width s (at + i * width) limit n ≡ true → Below width s at count limit (i + n)
-  below-more n h e = record { low = h; is = first-add width s at limit i n ∙ rw (b .is) e }
-
-  -- n more of which one is not
-  pub below-fails : (n : ℕ) → i + n ≤ count → firstBelow width s (at + i * width) limit n ≡ false → firstBelow width s at limit count ≡ false
-  below-fails n h e =
-      let k : i + n + (count - (i + n)) ≡ count = omega arith in
-      let f : firstBelow width s at limit (i + n) ≡ false = first-add width s at limit i n ∙ rw (b .is) e in
-      ap (firstBelow width s at limit) (sym k) ∙ first-add width s at limit (i + n) (count - (i + n)) ∙ rw f
-
-  pub below-end : count ≤ i → firstBelow width s at limit count ≡ true
-  below-end h =
-      let e : count ≡ i = omega (arith, b .low) in
-      ap (firstBelow width s at limit) e ∙ b .is
-
--- ---- those of a block that are below, counted
-
--- one more on both sides
-both-more : (a b : ℕ) → eqb (a + 1) (b + 1) ≡ eqb a b
-both-more a b = on (eqb a b) refl
+-- one more that is tested, on both sides
+all-so-far : (count n : ℕ) (ok : Bool) → count ≤ n → eqb (count + one ok) (n + 1) ≡ (eqb count n && ok)
+all-so-far count n true h = on (eqb count n) refl
   where
-    on : (t : Bool) → eqb a b ≡ t → eqb (a + 1) (b + 1) ≡ t
-    on true e = eq-eqb (a + 1) (b + 1) (omega (arith, eqb-true a b e))
-    on false e = ne-eqb (a + 1) (b + 1) (λ z. absurd (subst T (sym (eq-eqb a b (omega arith)) ∙ e) tt))
+    on : (t : Bool) → eqb count n ≡ t → eqb (count + 1) (n + 1) ≡ (t && true)
+    on true e = eq-eqb (count + 1) (n + 1) (omega (arith, eqb-true count n e))
+    on false e = ne-eqb (count + 1) (n + 1) (λ z. absurd (subst T (sym (eq-eqb count n (omega arith)) ∙ e) tt))
+all-so-far count n false h = ne-eqb (count + 0) (n + 1) (λ z. omega arith) ∙ sym (and-false (eqb count n))
 
-pub record Counted (width : ℕ) (s : List ℕ) (at limit below i : ℕ) : Type 0 where
-  pub low : i ≤ 64
-  pub few : below ≤ i
-  pub is : eqb below i ≡ firstBelow width s at limit i
+none-so-far : (count : ℕ) (ok : Bool) → eqb (count + one ok) 0 ≡ (eqb count 0 && not ok)
+none-so-far count true = ne-eqb (count + 1) 0 (λ z. omega arith) ∙ sym (and-false (eqb count 0))
+none-so-far count false = ap (λ (n : ℕ). eqb n 0) (add-zero count) ∙ sym (and-true (eqb count 0))
 
-pub counted-start : (width : ℕ) (s : List ℕ) (at limit : ℕ) → Counted width s at limit 0 0
-counted-start width s at limit = record { low = omega arith; few = omega arith; is = sym (first-none width s at limit) }
+three : (e p q r : Bool) → (((e && p) && q) && r) ≡ (e && (p && (q && (r && true))))
+three true true true r = sym (and-true r)
+three true true false r = refl
+three true false q r = refl
+three false p q r = refl
 
-module _ {width : ℕ} {s : List ℕ} {at limit below i : ℕ} (c : Counted width s at limit below i) (v : ℕ) (low : i < 64) (e : v ≡ le (part s (at + i * width) width)) where
-  next : firstBelow width s at limit (i + 1) ≡ (eqb below i && ltb v limit)
-  next = first-add width s at limit i 1 ∙ rw (c .is, first-one width s (at + i * width) limit v e)
+three-not : (e p q r : Bool) → (((e && p) && q) && r) ≡ (e && ((p && (q && r)) && true))
+three-not true true true r = sym (and-true r)
+three-not true true false r = refl
+three-not true false q r = refl
+three-not false p q r = refl
 
-  pub counted-more : {more : ℕ} → v < limit → more ≡ below + 1 → Counted width s at limit more (i + 1)
-  counted-more {more} h q = record {
-    low = omega arith;
-    few = omega (arith, c .few);
-    is = rw (q, both-more below i) (sym (next ∙ rw (lt-ltb v limit h) (and-true (eqb below i))));
+one-few : (ok : Bool) → one ok ≤ 1
+one-few true = omega arith
+one-few false = omega arith
+
+pub record Counted (limit : ℕ) (xs : List ℕ) (inside pairs i : ℕ) : Type 0 where
+  pub long : length xs ≡ 3 * i
+  pub few : inside ≤ 3 * i
+  pub fewer : pairs ≤ 3 * i
+  pub range : eqb inside (3 * i) ≡ inRange limit xs
+  pub three : eqb pairs 0 ≡ distinct xs
+
+pub counted-start : (limit : ℕ) (xs : List ℕ) → xs ≡ [] → Counted limit xs 0 0 0
+unfolding every trianglesOf
+counted-start limit xs e = rw e (record { long = refl; few = omega arith; fewer = omega arith; range = refl; three = refl })
+
+module _ {limit : ℕ} {xs : List ℕ} {inside pairs i : ℕ} (k : Counted limit xs inside pairs i) (t : Triangle) where
+  abbrev p : Bool
+  p = ltb (t .a) limit
+
+  abbrev q : Bool
+  q = ltb (t .b) limit
+
+  abbrev r : Bool
+  r = ltb (t .c) limit
+
+  range-more : eqb (inside + indicesBelow limit t) (3 * (i + 1)) ≡ inRange limit (xs ++ indicesOf t)
+  unfolding every
+  range-more =
+      let a = one-few p in
+      let b = one-few q in
+      let here : inside + indicesBelow limit t ≡ inside + one p + one q + one r = omega arith in
+      let there : 3 * (i + 1) ≡ 3 * i + 1 + 1 + 1 = omega arith in
+      rw (here, there, every-append (λ (x : ℕ). ltb x limit) xs (indicesOf t))
+      (all-so-far (inside + one p + one q) (3 * i + 1 + 1) r (omega (arith, a, b, k .few))
+      ∙ rw (all-so-far (inside + one p) (3 * i + 1) q (omega (arith, a, k .few)), all-so-far inside (3 * i) p (k .few), k .range)
+      (three (inRange limit xs) p q r))
+
+  three-more : eqb (pairs + equalPairs t) 0 ≡ distinct (xs ++ indicesOf t)
+  unfolding every trianglesOf hasThreeVertices
+  three-more =
+      let ab = eqb (t .a) (t .b) in
+      let bc = eqb (t .b) (t .c) in
+      let ac = eqb (t .a) (t .c) in
+      let here : pairs + equalPairs t ≡ pairs + one ab + one bc + one ac = omega arith in
+      rw (here, distinct-append i xs (indicesOf t) (k .long))
+      (none-so-far (pairs + one ab + one bc) ac ∙ rw (none-so-far (pairs + one ab) bc, none-so-far pairs ab, k .three) (three-not (distinct xs) (not ab) (not bc) (not ac)))
+
+  pub counted-turn : {ys : List ℕ} {more same : ℕ} → ys ≡ xs ++ indicesOf t → more ≡ inside + indicesBelow limit t → same ≡ pairs + equalPairs t → Counted limit ys more same (i + 1)
+  counted-turn e m s =
+      let a = one-few p in
+      let b = one-few q in
+      let c = one-few r in
+      let d = one-few (eqb (t .a) (t .b)) in
+      let f = one-few (eqb (t .b) (t .c)) in
+      let g = one-few (eqb (t .a) (t .c)) in
+      rw (e, m, s) (record {
+        long = length-append xs (indicesOf t) ∙ omega (arith, k .long);
+        few = omega (arith, a, b, c, k .few);
+        fewer = omega (arith, d, f, g, k .fewer);
+        range = range-more;
+        three = three-more;
+      })
+
+pub counted-end : {limit : ℕ} {xs : List ℕ} {inside pairs i : ℕ} → Counted limit xs inside pairs i → countedLowest inside pairs i ≡ indicesLowestOf limit xs
+unfolding indicesLowestOf
+counted-end k = rw (k .range, k .three)
+
+-- ---- blocks, one behind the other
+
+by-both : (a b c d : Bool) → cond (a && c) (cond (b && d) passed 27) 18 ≡ min (cond a (cond b passed 27) 18) (cond c (cond d passed 27) 18)
+by-both true true true true = refl
+by-both true true true false = refl
+by-both true true false d = refl
+by-both true false true true = refl
+by-both true false true false = refl
+by-both true false false d = refl
+by-both false b true true = refl
+by-both false b true false = refl
+by-both false b false d = refl
+
+lowest-append : (limit n : ℕ) (xs ys : List ℕ) → length xs ≡ 3 * n → indicesLowestOf limit (xs ++ ys) ≡ min (indicesLowestOf limit xs) (indicesLowestOf limit ys)
+unfolding indicesLowestOf
+lowest-append limit n xs ys e = rw (every-append (λ (i : ℕ). ltb i limit) xs ys, distinct-append n xs ys e) (by-both (inRange limit xs) (distinct xs) (inRange limit ys) (distinct ys))
+
+-- nothing is lower than 18
+range-first : (a b : Bool) → 18 ≤ cond a (cond b passed 27) 18
+range-first true true = omega arith
+range-first true false = omega arith
+range-first false b = omega arith
+
+pub record Scanned (limit : ℕ) (xs : List ℕ) (lowest i : ℕ) : Type 0 where
+  pub long : length xs ≡ 3 * i
+  pub is : lowest ≡ indicesLowestOf limit xs
+
+pub scanned-start : (limit : ℕ) (xs : List ℕ) → xs ≡ [] → Scanned limit xs passed 0
+unfolding indicesLowestOf every trianglesOf
+scanned-start limit xs e = rw e (record { long = refl; is = refl })
+
+module _ {limit : ℕ} {xs : List ℕ} {lowest i : ℕ} (k : Scanned limit xs lowest i) where
+  pub scanned-turn : {zs : List ℕ} {next : ℕ} (n : ℕ) (ys : List ℕ) → zs ≡ xs ++ ys → length ys ≡ 3 * n → next ≡ min lowest (indicesLowestOf limit ys) → Scanned limit zs next (i + n)
+  scanned-turn n ys e l m = record {
+    long = ap length e ∙ length-append xs ys ∙ omega (arith, l, k .long);
+    is = m ∙ ap (λ (x : ℕ). min x (indicesLowestOf limit ys)) (k .is) ∙ sym (lowest-append limit i xs ys (k .long)) ∙ ap (indicesLowestOf limit) (sym e);
   }
 
-  pub counted-same : {same : ℕ} → limit ≤ v → same ≡ below → Counted width s at limit same (i + 1)
-  counted-same {same} h q = record {
-    low = omega arith;
-    few = omega (arith, c .few);
-    is = ne-eqb same (i + 1) (λ z. omega (arith, c .few)) ∙ sym (next ∙ rw (le-ltb v limit h) (and-false (eqb below i)));
-  }
+  -- an index out of range decides, whatever follows
+  pub scanned-fails : {zs : List ℕ} (ys : List ℕ) → zs ≡ xs ++ ys → lowest ≡ 18 → 18 ≡ indicesLowestOf limit zs
+  unfolding indicesLowestOf
+  scanned-fails ys e h =
+      let low : 18 ≤ indicesLowestOf limit ys = range-first (inRange limit ys) (distinct ys) in
+      let lowest-18 : indicesLowestOf limit xs ≡ 18 = sym (k .is) ∙ h in
+      sym (ap (indicesLowestOf limit) e ∙ lowest-append limit i xs ys (k .long) ∙ omega (arith, low, lowest-18))
 
-pub counted-end : {width : ℕ} {s : List ℕ} {at limit below i : ℕ} → Counted width s at limit below i → 64 ≤ i → eqb below 64 ≡ firstBelow width s at limit 64
-counted-end {width} {s} {at} {limit} {below} {i} c h =
-    let e : i ≡ 64 = omega (arith, c .low) in
-    rw e at (c .is)
+-- ---- the indices of triangles that stand in bytes, so wide each
+
+-- n triangles behind i of them; `place` is where they begin
+pub triangles-add : (width : ℕ) (s : List ℕ) (at i n place : ℕ) → place ≡ at + 3 * i * width
+    → numbers width (3 * (i + n)) (drop at s) ≡ numbers width (3 * i) (drop at s) ++ numbers width (3 * n) (drop place s)
+triangles-add width s at i n place e =
+    let both : 3 * (i + n) ≡ 3 * i + 3 * n = omega arith in
+    ap (λ (m : ℕ). numbers width m (drop at s)) both ∙ numbers-add width (3 * i) (3 * n) (drop at s)
+    ∙ ap (λ (l : List ℕ). numbers width (3 * i) (drop at s) ++ numbers width (3 * n) l) (drop-drop (3 * i * width) at s ∙ ap (λ (m : ℕ). drop m s) (sym e))
+
+-- all of them, behind i
+pub triangles-all : (width : ℕ) (s : List ℕ) (at i count : ℕ) → i ≤ count
+    → numbers width (3 * count) (drop at s) ≡ numbers width (3 * i) (drop at s) ++ numbers width (3 * (count - i)) (drop (at + 3 * i * width) s)
+triangles-all width s at i count h =
+    let both : i + (count - i) ≡ count = omega arith in
+    ap (λ (m : ℕ). numbers width (3 * m) (drop at s)) (sym both) ∙ triangles-add width s at i (count - i) _ refl
+
+one-triangle : (width : ℕ) (s : List ℕ) (at : ℕ) → numbers width (3 * 1) (drop at s) ≡ indicesOf (triangleAt width s at)
+unfolding numbers part
+one-triangle width s at =
+    let twice : at + width + width ≡ at + 2 * width = omega arith in
+    rw (drop-drop width at s, drop-drop width (at + width) s, twice) refl
+
+-- one behind i of them
+pub triangles-next : (width : ℕ) (s : List ℕ) (at i place : ℕ) {t : Triangle} → place ≡ at + 3 * i * width → t ≡ triangleAt width s place
+    → numbers width (3 * (i + 1)) (drop at s) ≡ numbers width (3 * i) (drop at s) ++ indicesOf t
+triangles-next width s at i place e f = triangles-add width s at i 1 place e ∙ ap (λ (l : List ℕ). numbers width (3 * i) (drop at s) ++ l) (one-triangle width s place ∙ ap indicesOf (sym f))
+
+pub no-triangles : (width : ℕ) (s : List ℕ) → numbers width (3 * 0) s ≡ []
+unfolding numbers
+no-triangles width s = refl
+
+-- ---- and those of a caller's indices
+
+pub lent-add : (xs : List ℕ) (i n : ℕ) → take (3 * (i + n)) xs ≡ take (3 * i) xs ++ take (3 * n) (drop (i * 3) xs)
+lent-add xs i n =
+    let both : 3 * (i + n) ≡ 3 * i + 3 * n = omega arith in
+    let other : 3 * i ≡ i * 3 = omega arith in
+    ap (λ (m : ℕ). take m xs) both ∙ take-add (3 * i) (3 * n) xs ∙ ap (λ (m : ℕ). take (3 * i) xs ++ take (3 * n) (drop m xs)) other
+
+pub lent-length : (xs : List ℕ) (i n : ℕ) → 3 * (i + n) ≤ length xs → length (take (3 * n) (drop (i * 3) xs)) ≡ 3 * n
+lent-length xs i n h = length-take-le (3 * n) (drop (i * 3) xs) (simp length-drop (omega arith))
+
+pub lent-all : (xs : List ℕ) (i : ℕ) → xs ≡ take (3 * i) xs ++ drop (3 * i) xs
+lent-all xs i = sym (take-append-drop (3 * i) xs)
+
+lent-triangle : (xs : List ℕ) (at : ℕ) → at + 3 ≤ length xs → take 3 (drop at xs) ≡ indicesOf (lentTriangleAt xs at)
+lent-triangle xs at h =
+    let third : at + 2 ≡ suc (suc at) = omega arith in
+    rw (add-one at, third, drop-cons xs at 0 (omega arith), drop-cons xs (suc at) 0 (omega arith), drop-cons xs (suc (suc at)) 0 (omega arith)) refl
+
+pub lent-next : (xs : List ℕ) (at i place : ℕ) {t : Triangle} → place ≡ at + i * 3 → place + 3 ≤ length xs → t ≡ lentTriangleAt xs place
+    → take (3 * (i + 1)) (drop at xs) ≡ take (3 * i) (drop at xs) ++ indicesOf t
+lent-next xs at i place e h f =
+    lent-add (drop at xs) i 1 ∙ ap (λ (l : List ℕ). take (3 * i) (drop at xs) ++ take 3 l) (drop-drop (i * 3) at xs ∙ ap (λ (m : ℕ). drop m xs) (sym e))
+    ∙ ap (λ (l : List ℕ). take (3 * i) (drop at xs) ++ l) (lent-triangle xs place h ∙ ap indicesOf (sym f))

@@ -12,14 +12,15 @@ use Rattle.sections.proofs.AddressLaws.{both-true}
 use Rattle.vertices.specs.Runs.{numbers}
 use Rattle.vertices.proofs.RunLaws.{numbers-length}
 use Rattle.halls.specs.Every.{every, sumOf}
-use Rattle.halls.specs.Checks.{vertexBytesExact, sameNumbers, shaderIds, mappingMatches, geometryCount, countsWithinLimits, stridesAgree, componentsInside, vertexCountsAgree, indexCountsAgree, indicesInRange, imageWithinLimit, require, everyGeometry, verdict}
+use Rattle.halls.specs.Checks.{vertexBytesExact, sameNumbers, shaderIds, mappingMatches, geometryCount, countsWithinLimits, stridesAgree, componentsInside, vertexCountsAgree, indexCountsAgree, indicesInRange, trianglesDistinct, imageWithinLimit, require, everyGeometry, verdict}
 use Rattle.halls.specs.Hall.{FullGeometry, FullModel, Hall}
 use Rattle.halls.specs.ImageSize.{padded, geometrySize, modelSize}
-use Rattle.halls.specs.Inner.Judging.{passed, lowestOf}
+use Rattle.halls.specs.Inner.Judging.{lowestOf}
+use Rattle.halls.specs.Inner.Order.{passed, tooLarge, failing, checkOf, verdictOf}
 use Rattle.halls.specs.Parsing.{mappingCount, modelIn, geometriesIn, modelsIn, geometryIn, bodyAt}
 use Rattle.halls.specs.Records.{Record}
 use Rattle.halls.specs.Triangles.{heldCount}
-use Rattle.halls.specs.Inner.Walk.{leads, rest, isEmpty, failing, lowestFrom, kindCount, modelUnits, geometryUnits, unitsFrom, verdictOf, geometryOf}
+use Rattle.halls.specs.Inner.Walk.{leads, rest, isEmpty, lowestFrom, kindCount, modelUnits, geometryUnits, unitsFrom, geometryOf}
 use Rattle.halls.proofs.SoundLaws.{same-numbers}
 use Rattle.halls.specs.declared.check.check.Verdict.{Verdict}
 use Rattle.halls.specs.declared.check.check.Verdict.the-variants.{Sound}
@@ -65,18 +66,18 @@ lowest-both low (n ∷ ns) (false ∷ bs) (false ∷ cs) e f r = omega arith
 -- ---- checks 12 to 19
 
 abbrev checks : List ℕ
-checks = 12 ∷ 13 ∷ 14 ∷ 15 ∷ 16 ∷ 17 ∷ 18 ∷ 19 ∷ []
+checks = 12 ∷ 13 ∷ 14 ∷ 15 ∷ 16 ∷ 17 ∷ 18 ∷ 27 ∷ tooLarge ∷ []
 
 rising : Rising 12 checks
 rising = omega arith
 
-abbrev lowestAmong : Bool → Bool → Bool → Bool → Bool → Bool → Bool → Bool → ℕ
-lowestAmong a b c d e f g h = lowestFailing checks (a ∷ b ∷ c ∷ d ∷ e ∷ f ∷ g ∷ h ∷ [])
+abbrev lowestAmong : Bool → Bool → Bool → Bool → Bool → Bool → Bool → Bool → Bool → ℕ
+lowestAmong a b c d e f g i h = lowestFailing checks (a ∷ b ∷ c ∷ d ∷ e ∷ f ∷ g ∷ i ∷ h ∷ [])
 
-together : (a b c d e f g h a′ b′ c′ d′ e′ f′ g′ h′ : Bool)
-    → min (lowestAmong a b c d e f g h) (lowestAmong a′ b′ c′ d′ e′ f′ g′ h′) ≡ lowestAmong (a && a′) (b && b′) (c && c′) (d && d′) (e && e′) (f && f′) (g && g′) (h && h′)
-together a b c d e f g h a′ b′ c′ d′ e′ f′ g′ h′ =
-    lowest-both 12 checks (a ∷ b ∷ c ∷ d ∷ e ∷ f ∷ g ∷ h ∷ []) (a′ ∷ b′ ∷ c′ ∷ d′ ∷ e′ ∷ f′ ∷ g′ ∷ h′ ∷ []) refl refl rising
+together : (a b c d e f g i h a′ b′ c′ d′ e′ f′ g′ i′ h′ : Bool)
+    → min (lowestAmong a b c d e f g i h) (lowestAmong a′ b′ c′ d′ e′ f′ g′ i′ h′) ≡ lowestAmong (a && a′) (b && b′) (c && c′) (d && d′) (e && e′) (f && f′) (g && g′) (i && i′) (h && h′)
+together a b c d e f g i h a′ b′ c′ d′ e′ f′ g′ i′ h′ =
+    lowest-both 12 checks (a ∷ b ∷ c ∷ d ∷ e ∷ f ∷ g ∷ i ∷ h ∷ []) (a′ ∷ b′ ∷ c′ ∷ d′ ∷ e′ ∷ f′ ∷ g′ ∷ i′ ∷ h′ ∷ []) refl refl rising
 
 -- of all geometries
 unfoldable pub lowestOfAll : List FullGeometry → ℕ
@@ -84,13 +85,13 @@ lowestOfAll [] = passed
 lowestOfAll (g ∷ gs) = min (lowestOf g) (lowestOfAll gs)
 
 all-geometries : (gs : List FullGeometry)
-    → lowestOfAll gs ≡ lowestAmong true true (every stridesAgree gs) (every componentsInside gs) (every vertexCountsAgree gs) (every indexCountsAgree gs) (every indicesInRange gs) true
+    → lowestOfAll gs ≡ lowestAmong true true (every stridesAgree gs) (every componentsInside gs) (every vertexCountsAgree gs) (every indexCountsAgree gs) (every indicesInRange gs) (every trianglesDistinct gs) true
 unfolding lowestOfAll lowestOf every
 all-geometries [] = refl
 all-geometries (g ∷ gs) =
     ap (min (lowestOf g)) (all-geometries gs)
-    ∙ together true true (stridesAgree g) (componentsInside g) (vertexCountsAgree g) (indexCountsAgree g) (indicesInRange g) true
-    true true (every stridesAgree gs) (every componentsInside gs) (every vertexCountsAgree gs) (every indexCountsAgree gs) (every indicesInRange gs) true
+    ∙ together true true (stridesAgree g) (componentsInside g) (vertexCountsAgree g) (indexCountsAgree g) (indicesInRange g) (trianglesDistinct g) true
+    true true (every stridesAgree gs) (every componentsInside gs) (every vertexCountsAgree gs) (every indexCountsAgree gs) (every indicesInRange gs) (every trianglesDistinct gs) true
 
 -- of all models
 unfoldable pub lowestOfModels : Hall → ℕ
@@ -99,7 +100,7 @@ lowestOfModels (m ∷ ms) = min (failing 12 (mappingMatches m)) (min (lowestOfAl
 
 abbrev modelsLowest : Hall → ℕ
 modelsLowest h =
-    lowestAmong (every mappingMatches h) true (everyGeometry stridesAgree h) (everyGeometry componentsInside h) (everyGeometry vertexCountsAgree h) (everyGeometry indexCountsAgree h) (everyGeometry indicesInRange h) true
+    lowestAmong (every mappingMatches h) true (everyGeometry stridesAgree h) (everyGeometry componentsInside h) (everyGeometry vertexCountsAgree h) (everyGeometry indexCountsAgree h) (everyGeometry indicesInRange h) (everyGeometry trianglesDistinct h) true
 
 all-models : (h : Hall) → lowestOfModels h ≡ modelsLowest h
 unfolding lowestOfModels every
@@ -107,10 +108,10 @@ all-models [] = refl
 all-models (m ∷ ms) =
     let gs : List FullGeometry = m .geometries in
     rw (all-geometries gs, all-models ms)
-    (ap (min (failing 12 (mappingMatches m))) (together true true (every stridesAgree gs) (every componentsInside gs) (every vertexCountsAgree gs) (every indexCountsAgree gs) (every indicesInRange gs) true
-    (every mappingMatches ms) true (everyGeometry stridesAgree ms) (everyGeometry componentsInside ms) (everyGeometry vertexCountsAgree ms) (everyGeometry indexCountsAgree ms) (everyGeometry indicesInRange ms) true)
-    ∙ together (mappingMatches m) true true true true true true true
-    (every mappingMatches ms) true (every stridesAgree gs && everyGeometry stridesAgree ms) (every componentsInside gs && everyGeometry componentsInside ms) (every vertexCountsAgree gs && everyGeometry vertexCountsAgree ms) (every indexCountsAgree gs && everyGeometry indexCountsAgree ms) (every indicesInRange gs && everyGeometry indicesInRange ms) true)
+    (ap (min (failing 12 (mappingMatches m))) (together true true (every stridesAgree gs) (every componentsInside gs) (every vertexCountsAgree gs) (every indexCountsAgree gs) (every indicesInRange gs) (every trianglesDistinct gs) true
+    (every mappingMatches ms) true (everyGeometry stridesAgree ms) (everyGeometry componentsInside ms) (everyGeometry vertexCountsAgree ms) (everyGeometry indexCountsAgree ms) (everyGeometry indicesInRange ms) (everyGeometry trianglesDistinct ms) true)
+    ∙ together (mappingMatches m) true true true true true true true true
+    (every mappingMatches ms) true (every stridesAgree gs && everyGeometry stridesAgree ms) (every componentsInside gs && everyGeometry componentsInside ms) (every vertexCountsAgree gs && everyGeometry vertexCountsAgree ms) (every indexCountsAgree gs && everyGeometry indexCountsAgree ms) (every indicesInRange gs && everyGeometry indicesInRange ms) (every trianglesDistinct gs && everyGeometry trianglesDistinct ms) true)
 
 -- check 12 is the lowest of them
 pub mapping-lowest : (h : Hall) → every mappingMatches h ≡ false → lowestOfModels h ≡ 12
@@ -121,7 +122,7 @@ mapping-lowest h e = all-models h ∙ rw e
 abbrev requireAll : List ℕ → List Bool → Verdict
 requireAll [] bs = Sound
 requireAll (n ∷ ns) [] = Sound
-requireAll (n ∷ ns) (b ∷ bs) = require n b (requireAll ns bs)
+requireAll (n ∷ ns) (b ∷ bs) = require (checkOf n) b (requireAll ns bs)
 
 abbrev Low : List ℕ → Type 0
 Low [] = Unit {0}
@@ -134,25 +135,25 @@ all-required (n ∷ ns) (true ∷ bs) l = all-required ns bs (l .1)
 all-required (n ∷ ns) (false ∷ bs) l = rw (lt-leb passed n (l .0))
 
 low : Low checks
-low = (omega arith, (omega arith, (omega arith, (omega arith, (omega arith, (omega arith, (omega arith, (omega arith, tt))))))))
+low = (omega arith, (omega arith, (omega arith, (omega arith, (omega arith, (omega arith, (omega arith, (omega arith, (omega arith, tt)))))))))
 
 module _ (h : Hall) where
-  abbrev among : Bool → Bool → Bool → Bool → Bool → Bool → ℕ
-  among a c d e f g = lowestAmong a (countsWithinLimits h) c d e f g (imageWithinLimit h)
+  abbrev among : Bool → Bool → Bool → Bool → Bool → Bool → Bool → ℕ
+  among a c d e f g i = lowestAmong a (countsWithinLimits h) c d e f g i (imageWithinLimit h)
 
   -- checks 12 and 14 to 18 by models, 13 and 19 of the whole
-  lowest-all : min (modelsLowest h) (cond (countsWithinLimits h) (failing 19 (imageWithinLimit h)) 13)
-      ≡ among (every mappingMatches h) (everyGeometry stridesAgree h) (everyGeometry componentsInside h) (everyGeometry vertexCountsAgree h) (everyGeometry indexCountsAgree h) (everyGeometry indicesInRange h)
+  lowest-all : min (modelsLowest h) (cond (countsWithinLimits h) (failing tooLarge (imageWithinLimit h)) 13)
+      ≡ among (every mappingMatches h) (everyGeometry stridesAgree h) (everyGeometry componentsInside h) (everyGeometry vertexCountsAgree h) (everyGeometry indexCountsAgree h) (everyGeometry indicesInRange h) (everyGeometry trianglesDistinct h)
   lowest-all =
-      together (every mappingMatches h) true (everyGeometry stridesAgree h) (everyGeometry componentsInside h) (everyGeometry vertexCountsAgree h) (everyGeometry indexCountsAgree h) (everyGeometry indicesInRange h) true
-      true (countsWithinLimits h) true true true true true (imageWithinLimit h)
-      ∙ rw (and-true (every mappingMatches h), and-true (everyGeometry stridesAgree h), and-true (everyGeometry componentsInside h), and-true (everyGeometry vertexCountsAgree h), and-true (everyGeometry indexCountsAgree h), and-true (everyGeometry indicesInRange h))
+      together (every mappingMatches h) true (everyGeometry stridesAgree h) (everyGeometry componentsInside h) (everyGeometry vertexCountsAgree h) (everyGeometry indexCountsAgree h) (everyGeometry indicesInRange h) (everyGeometry trianglesDistinct h) true
+      true (countsWithinLimits h) true true true true true true (imageWithinLimit h)
+      ∙ rw (and-true (every mappingMatches h), and-true (everyGeometry stridesAgree h), and-true (everyGeometry componentsInside h), and-true (everyGeometry vertexCountsAgree h), and-true (everyGeometry indexCountsAgree h), and-true (everyGeometry indicesInRange h), and-true (everyGeometry trianglesDistinct h))
 
-  pub verdict-lowest : everyGeometry vertexBytesExact h ≡ true → verdictOf (min (lowestOfModels h) (cond (countsWithinLimits h) (failing 19 (imageWithinLimit h)) 13)) ≡ verdict h
+  pub verdict-lowest : everyGeometry vertexBytesExact h ≡ true → verdictOf (min (lowestOfModels h) (cond (countsWithinLimits h) (failing tooLarge (imageWithinLimit h)) 13)) ≡ verdict h
   unfolding verdict
   verdict-lowest e =
       rw (all-models h, lowest-all, e)
-      (all-required checks (every mappingMatches h ∷ countsWithinLimits h ∷ everyGeometry stridesAgree h ∷ everyGeometry componentsInside h ∷ everyGeometry vertexCountsAgree h ∷ everyGeometry indexCountsAgree h ∷ everyGeometry indicesInRange h ∷ imageWithinLimit h ∷ []) low)
+      (all-required checks (every mappingMatches h ∷ countsWithinLimits h ∷ everyGeometry stridesAgree h ∷ everyGeometry componentsInside h ∷ everyGeometry vertexCountsAgree h ∷ everyGeometry indexCountsAgree h ∷ everyGeometry indicesInRange h ∷ everyGeometry trianglesDistinct h ∷ imageWithinLimit h ∷ []) low)
 
 -- ---- what the records behind come to
 

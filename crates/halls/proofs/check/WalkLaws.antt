@@ -19,9 +19,10 @@ use Rattle.halls.specs.Hall.{FullGeometry}
 use Rattle.halls.specs.Inner.HallRecords.{ofKind}
 use Rattle.halls.specs.Fronts.{GeometryFront, frontGeometry}
 use Rattle.halls.specs.Inner.Judging.{lowestOf}
+use Rattle.halls.specs.Inner.Order.{passed, failing}
 use Rattle.halls.specs.Parsing.{whole, follows, mayEnd, ordered, exact, structured, geometryIn, mappingCount}
 use Rattle.halls.specs.Records.{Record, records}
-use Rattle.halls.specs.Inner.Walk.{frontOf, wellFrom, leads, rest, isEmpty, failing, lowestFrom, kindCount, units, modelUnits, geometryUnits, unitsFrom, leftOf, startTally, beforeOf, Walked, Turned}
+use Rattle.halls.specs.Inner.Walk.{frontOf, wellFrom, leads, rest, isEmpty, lowestFrom, kindCount, units, modelUnits, geometryUnits, unitsFrom, leftOf, startTally, beforeOf, Walked, Turned}
 use Rattle.halls.specs.declared.format.front.Front.the-variants.{Model, Geometry, Broken}
 use Rattle.halls.specs.declared.check.pass.Tally.{Tally}
 use Rattle.halls.specs.declared.check.pass.Turn.{Turn}
@@ -248,7 +249,7 @@ pub answered-other : {left found : ℕ} (s : List ℕ) (mapping shader : ℕ) �
 answered-other {left} s mapping shader f h e d = rw (leads-first left s mapping shader f h, ne-eqb (field 2 s mapping) shader (λ q. d (e ∙ q)))
 
 pub answered-same : {left found : ℕ} (s : List ℕ) (mapping shader : ℕ) → (left ≡ 0 → ⊥) → mapping + 2 * left ≤ length s → found ≡ field 2 s mapping → found ≡ shader
-    → 20 ≡ failing 12 (leads shader (numbers 2 left (drop mapping s)))
+    → passed ≡ failing 12 (leads shader (numbers 2 left (drop mapping s)))
 answered-same {left} s mapping shader f h e d = rw (leads-first left s mapping shader f h, eq-eqb (field 2 s mapping) shader (sym e ∙ d))
 
 -- what is left of a slice from a place on

@@ -1,46 +1,19 @@
--- Loops over a caller's numbers: a test of each of them, and their bytes.
+-- A loop over a caller's numbers puts their bytes.
 use mathlib.Core.Path.{_≡_, refl, sym, ap, _∙_}
-use mathlib.Core.Bool.{Bool, true, false, _&&_}
 use mathlib.Core.List.{List, [], _∷_, _++_}
 use Prim.Native.Nat.{ℕ, _+_, _*_, _≤_, _<_}
 use native.Mathlib.Numerals.{add-one}
 use native.Mathlib.Omega.{arith}
-use lib.ListN.{length, take, drop, getD, drop-of-length-le}
-use lib.Seq.{drop-cons, take-suc, take-all, length-take-le}
+use lib.ListN.{length, take, getD}
+use lib.Seq.{take-suc, take-all, length-take-le}
 use Rattle.sections.specs.Edit.{overwrite}
 use Rattle.sections.specs.Le.{bytes}
 use Rattle.sections.proofs.EditLaws.{overwrite-length, overwrite-none, overwrite-then}
 use Rattle.sections.proofs.LeLaws.{length-bytes}
 use Rattle.vertices.specs.Runs.{run}
 use Rattle.vertices.proofs.RunLaws.{length-run, run-append, run-one}
-use Rattle.halls.specs.Every.{every}
 
--- ---- those from i on decide
-
-pub record Passing (test : ℕ → Bool) (xs : List ℕ) (i : ℕ) : Type 0 where
-  pub low : i ≤ length xs
-  pub is : every test xs ≡ every test (drop i xs)
-
-pub passing-start : (test : ℕ → Bool) (xs : List ℕ) → Passing test xs 0
-passing-start test xs = record { low = omega arith; is = refl }
-
-module _ {test : ℕ → Bool} {xs : List ℕ} {i : ℕ} (p : Passing test xs i) where
-  by-next : i < length xs → every test xs ≡ (test (getD xs i 0) && every test (drop (i + 1) xs))
-  unfolding every
-  by-next h = p .is ∙ ap (every test) (drop-cons xs i 0 h) ∙ rw (add-one i)
-
-  pub passing-turn : i < length xs → test (getD xs i 0) ≡ true → Passing test xs (i + 1)
-  passing-turn h e = record { low = omega arith; is = by-next h ∙ rw e }
-
-  pub passing-fails : i < length xs → test (getD xs i 0) ≡ false → false ≡ every test xs
-  passing-fails h e = sym (by-next h ∙ rw e)
-
-  pub passing-end : length xs ≤ i → true ≡ every test xs
-  unfolding every
-  passing-end h = sym (p .is ∙ ap (every test) (drop-of-length-le xs {i = i} h))
-
--- ---- the first i stand in the bytes
-
+-- the first i stand in the bytes
 pub record Putting (xs d : List ℕ) (at : ℕ) (b : List ℕ) (i : ℕ) : Type 0 where
   pub room : at + 4 * length xs ≤ length d
   pub low : i ≤ length xs

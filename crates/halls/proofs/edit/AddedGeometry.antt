@@ -6,7 +6,7 @@ use mathlib.Core.Option.{none, some}
 use Prim.Native.Nat.{ℕ, zero, suc, _+_, _*_, _-_, _/_, _≤_, _<_, min}
 use native.Mathlib.Omega.{arith}
 use borrow.Author.Tests.{le-leb, lt-leb, leb-true, eq-eqb}
-use lib.Dec.{eqb, leb, ltb}
+use lib.Dec.{eqb, leb}
 use lib.ListN.{length, take, drop, length-append, length-take, length-drop, length-map, take-append-drop, drop-of-length-le}
 use lib.Seq.{length-take-le, take-at, drop-at, take-take}
 use Rattle.sections.specs.Edit.{part, overwrite, fits, Edited}
@@ -17,17 +17,18 @@ use Rattle.sections.proofs.AddressLaws.{both-true}
 use Rattle.vertices.specs.Runs.{run}
 use Rattle.vertices.proofs.RunLaws.{length-run}
 use Rattle.halls.specs.Calls.{Given, addGeometry, proposed, without, replaced, givenGeometry, withGiven}
-use Rattle.halls.specs.Checks.{vertexBytesExact, shaderIds, mappingMatches, geometryCount, countsWithinLimits, stridesAgree, componentsInside, vertexCountsAgree, indexCountsAgree, indicesInRange, imageWithinLimit, require, everyGeometry, verdict}
+use Rattle.halls.specs.Checks.{vertexBytesExact, shaderIds, mappingMatches, geometryCount, countsWithinLimits, stridesAgree, componentsInside, vertexCountsAgree, indexCountsAgree, indicesInRange, trianglesDistinct, imageWithinLimit, require, everyGeometry, verdict}
 use Rattle.halls.specs.Every.{every, sumOf}
 use Rattle.halls.specs.Hall.{FullGeometry, FullModel, Hall, FullModelInWidth, listedGeometry, hallBytes}
 use Rattle.halls.specs.ImageSize.{geometrySize, modelSize, imageSize}
-use Rattle.halls.specs.Inner.Judging.{passed, lowestOf, insideStride, givenLowest}
+use Rattle.halls.specs.Inner.Judging.{indicesLowestOf, lowestOf, insideStride, givenLowest}
+use Rattle.halls.specs.Inner.Order.{passed, tooLarge, failing, checkOf, verdictOf}
 use Rattle.halls.specs.List.{each, writeGeometry}
 use Rattle.halls.specs.Places.{item, modelPlace, foundModel}
 use Rattle.halls.specs.Reading.{read}
 use Rattle.halls.specs.State.{modelState, hallOf, stateOf}
 use Rattle.halls.specs.Step.{stateIn, rewritten, Stepped}
-use Rattle.halls.specs.Inner.Walk.{units, modelUnits, geometryUnits, failing, verdictOf, limitsLowest, Counted}
+use Rattle.halls.specs.Inner.Walk.{units, modelUnits, geometryUnits, limitsLowest, Counted}
 use Rattle.halls.specs.declared.answer.Answer.the-variants.{Accepted, Refused}
 use Rattle.halls.specs.declared.check.check.Verdict.the-variants.{Sound, Fails}
 use Rattle.halls.specs.declared.check.find.FoundModel.the-variants.{At}
@@ -37,54 +38,53 @@ use Rattle.halls.proofs.check.CutLaws.{number-between, over-between, ge
 use Rattle.halls.proofs.check.LimitLaws.{wholeLowest, limits-of}
 use Rattle.halls.proofs.edit.RemovedLaws.{ModelThere, model-there}
 use Rattle.halls.proofs.edit.RewrittenLaws.{rewritten-length, rewritten-over, rewritten-more, rewritten-opened}
-use Rattle.halls.proofs.check.ScanLaws.{every-append}
+use Rattle.halls.proofs.EveryLaws.{and-true, every-append}
 use Rattle.halls.proofs.edit.SoundEdits.{split-item, item-within, each-item, sum-append, sum-item, sum-replaced, state-item, same-itself}
 use Rattle.halls.proofs.SoundLaws.{SoundModel, verdict-sound, sound-models}
 use Rattle.halls.proofs.StateLaws.{model-of-state}
 use Rattle.halls.proofs.edit.StepLaws.{hallIn, Old, stays-barred, stays-judged, stays-long, becomes-new}
 use Rattle.halls.proofs.read.ViewLaws.{geometry-record-length, declaration-record-length, vertices-record-length, indices-record-length}
 
-and-true : (t : Bool) → (t && true) ≡ t
-and-true true = refl
-and-true false = refl
-
 -- ---- what a given geometry can fail
 
 module _ (x : Given) where
-  pub given-is : {a b c d e f : Bool} → eqb (length (x .content)) (x .count * x .stride) ≡ a → eqb (x .declaration .stride) (x .stride) ≡ b
+  pub given-is : {a b c d e : Bool} {low : ℕ} → eqb (length (x .content)) (x .count * x .stride) ≡ a → eqb (x .declaration .stride) (x .stride) ≡ b
       → insideStride (x .declaration) (x .stride) ≡ c → (leb 1 (x .count) && leb (x .count) 65535) ≡ d
-      → (eqb (length (x .indices)) (3 * (length (x .indices) / 3)) && leb 3 (length (x .indices))) ≡ e → every (λ (i : ℕ). ltb i (x .count)) (x .indices) ≡ f
-      → givenLowest (givenGeometry x) ≡ cond a (cond b (cond c (cond d (cond e (cond f 20 18) 17) 16) 15) 14) 11
-  unfolding givenLowest lowestOf insideStride vertexBytesExact stridesAgree componentsInside vertexCountsAgree indexCountsAgree indicesInRange
+      → (eqb (length (x .indices)) (3 * (length (x .indices) / 3)) && leb 3 (length (x .indices))) ≡ e → indicesLowestOf (x .count) (x .indices) ≡ low
+      → givenLowest (givenGeometry x) ≡ cond a (cond b (cond c (cond d (cond e low 17) 16) 15) 14) 11
+  unfolding givenLowest lowestOf indicesLowestOf insideStride vertexBytesExact stridesAgree componentsInside vertexCountsAgree indexCountsAgree indicesInRange trianglesDistinct
   given-is a b c d e f =
       rw (eq-eqb (x .stride) (x .stride) refl, eq-eqb (x .count) (x .count) refl, eq-eqb (length (x .indices)) (length (x .indices)) refl, and-true (eqb (x .declaration .stride) (x .stride)), a, b, c, d, e, f)
 
 -- ---- the verdict on the result: every other geometry passes already
 
-by-parts : (exact counts strides inside vertices indices range image : Bool)
-    → require 11 exact (require 13 counts (require 14 strides (require 15 inside (require 16 vertices (require 17 indices (require 18 range (require 19 image Sound)))))))
-    ≡ verdictOf (min (cond exact (cond strides (cond inside (cond vertices (cond indices (cond range passed 18) 17) 16) 15) 14) 11) (cond counts (failing 19 image) 13))
-by-parts true true true true true true true true = refl
-by-parts true true true true true true true false = refl
-by-parts true true true true true true false true = refl
-by-parts true true true true true true false false = refl
-by-parts true true true true true false range true = refl
-by-parts true true true true true false range false = refl
-by-parts true true true true false indices range true = refl
-by-parts true true true true false indices range false = refl
-by-parts true true true false vertices indices range true = refl
-by-parts true true true false vertices indices range false = refl
-by-parts true true false inside vertices indices range true = refl
-by-parts true true false inside vertices indices range false = refl
-by-parts true false true true true true true image = refl
-by-parts true false true true true true false image = refl
-by-parts true false true true true false range image = refl
-by-parts true false true true false indices range image = refl
-by-parts true false true false vertices indices range image = refl
-by-parts true false false inside vertices indices range image = refl
-by-parts false true strides inside vertices indices range true = refl
-by-parts false true strides inside vertices indices range false = refl
-by-parts false false strides inside vertices indices range image = refl
+by-parts : (exact counts strides inside vertices indices range three image : Bool)
+    → require 11 exact (require 13 counts (require 14 strides (require 15 inside (require 16 vertices (require 17 indices (require 18 range (require 27 three (require 19 image Sound))))))))
+    ≡ verdictOf (min (cond exact (cond strides (cond inside (cond vertices (cond indices (cond range (cond three passed 27) 18) 17) 16) 15) 14) 11) (cond counts (failing tooLarge image) 13))
+by-parts true true true true true true true true true = refl
+by-parts true true true true true true true true false = refl
+by-parts true true true true true true true false true = refl
+by-parts true true true true true true true false false = refl
+by-parts true true true true true true false three true = refl
+by-parts true true true true true true false three false = refl
+by-parts true true true true true false range three true = refl
+by-parts true true true true true false range three false = refl
+by-parts true true true true false indices range three true = refl
+by-parts true true true true false indices range three false = refl
+by-parts true true true false vertices indices range three true = refl
+by-parts true true true false vertices indices range three false = refl
+by-parts true true false inside vertices indices range three true = refl
+by-parts true true false inside vertices indices range three false = refl
+by-parts true false true true true true true true image = refl
+by-parts true false true true true true true false image = refl
+by-parts true false true true true true false three image = refl
+by-parts true false true true true false range three image = refl
+by-parts true false true true false indices range three image = refl
+by-parts true false true false vertices indices range three image = refl
+by-parts true false false inside vertices indices range three image = refl
+by-parts false true strides inside vertices indices range three true = refl
+by-parts false true strides inside vertices indices range three false = refl
+by-parts false false strides inside vertices indices range three image = refl
 
 -- a test of every item, with another in the place of one
 module _ {A : Type 0} (test : A → Bool) where
@@ -196,8 +196,9 @@ module _ (b : List ℕ) (n : ℕ) (o : Old b n) (x : Given) (m : ℕ) (em : m �
         passes vertexCountsAgree (f .vertex-counts),
         passes indexCountsAgree (f .index-counts),
         passes indicesInRange (f .indices),
+        passes trianglesDistinct (f .triangles),
       )
-      (by-parts (vertexBytesExact y) (countsWithinLimits result) (stridesAgree y) (componentsInside y) (vertexCountsAgree y) (indexCountsAgree y) (indicesInRange y) (imageWithinLimit result))
+      (by-parts (vertexBytesExact y) (countsWithinLimits result) (stridesAgree y) (componentsInside y) (vertexCountsAgree y) (indexCountsAgree y) (indicesInRange y) (trianglesDistinct y) (imageWithinLimit result))
 
   models-same : length result ≡ length h
   models-same = let d = item-within m h last is in simp (length-append, length-take, length-drop) (omega arith)
@@ -464,7 +465,7 @@ few-units-of : (u parts a image : ℕ) → 16 * (1 + u + (parts + a)) ≡ image 
 few-units-of u parts a image e l = omega arith
 
 any-shader : (x : Given) (s : ℕ) → givenLowest (givenGeometry x) ≡ givenLowest (givenGeometry (record { shader = s; declaration = x .declaration; stride = x .stride; count = x .count; content = x .content; indices = x .indices }))
-unfolding givenLowest lowestOf vertexBytesExact stridesAgree componentsInside vertexCountsAgree indexCountsAgree indicesInRange
+unfolding givenLowest lowestOf vertexBytesExact stridesAgree componentsInside vertexCountsAgree indexCountsAgree indicesInRange trianglesDistinct
 any-shader x s = refl
 
 module _ (b : List ℕ) (n : ℕ) (o : Old b n) (x : Given) (r : Summary) (c : Counted (hallIn b n) r) (place : ℕ) (f : foundModel (modelPlace (hallIn b n) (r .models - 1)) ≡ At place)
@@ -517,12 +518,12 @@ module _ (b : List ℕ) (n : ℕ) (o : Old b n) (x : Given) (r : Summary) (c : C
         verdict-is b n o x (r .models - 1) last-one ended (place-of .is) r c ((size - 6) / 2) added entries ea
         ∙ ap (λ (l : ℕ). verdictOf (min l (limitsLowest (r .models) (r .geometries + 1) (r .units + added)))) (any-shader x 0 ∙ sym eo) ∙ ap (λ (l : ℕ). verdictOf l) (sym el)
 
-    pub added-judged : lowest < 20 → Stepped (addGeometry x) b n (Refused (record { check = lowest; needed = 0 })) b
-    added-judged l = geometry-judged b n o x (r .models - 1) last-one ended (place-of .is) lowest (judged-as ∙ rw (lt-leb 20 lowest l))
+    pub added-judged : lowest < passed → Stepped (addGeometry x) b n (Refused (record { check = checkOf lowest; needed = 0 })) b
+    added-judged l = geometry-judged b n o x (r .models - 1) last-one ended (place-of .is) (checkOf lowest) (judged-as ∙ rw (lt-leb passed lowest l))
 
-    module _ (passing : 20 ≤ lowest) where
+    module _ (passing : passed ≤ lowest) where
       new-sound : verdict new-hall ≡ Sound
-      new-sound = judged-as ∙ rw (le-leb 20 lowest passing)
+      new-sound = judged-as ∙ rw (le-leb passed lowest passing)
 
       abbrev new-length : ℕ
       new-length = n + 67 + length (x .content) + 4 * length (x .indices)

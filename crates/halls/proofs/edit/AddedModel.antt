@@ -20,14 +20,15 @@ use Rattle.halls.specs.List.{each, modelNumbers, modelRecord, writeModel
 use Rattle.halls.specs.Reading.{read}
 use Rattle.halls.specs.State.{State, fullModel, hallOf}
 use Rattle.halls.specs.Step.{stateIn, rewritten, Stepped}
-use Rattle.halls.specs.Inner.Walk.{units, verdictOf, limitsLowest, Counted}
+use Rattle.halls.specs.Inner.Order.{passed, checkOf, verdictOf}
+use Rattle.halls.specs.Inner.Walk.{units, limitsLowest, Counted}
 use Rattle.halls.specs.declared.answer.Answer.the-variants.{Accepted, Refused}
 use Rattle.halls.specs.declared.check.check.Verdict.the-variants.{Sound}
 use Rattle.halls.specs.declared.check.pass.Summary.{Summary}
 use Rattle.halls.proofs.check.LimitLaws.{EachPasses, limits-of, limits-verdict}
 use Rattle.halls.proofs.format.RecordLaws.{model-parts}
 use Rattle.halls.proofs.edit.RewrittenLaws.{rewritten-start, rewritten-more}
-use Rattle.halls.proofs.check.ScanLaws.{every-append}
+use Rattle.halls.proofs.EveryLaws.{every-append}
 use Rattle.halls.proofs.edit.SoundEdits.{sum-append, hall-bytes-append}
 use Rattle.halls.proofs.SoundLaws.{verdict-sound}
 use Rattle.halls.proofs.edit.StepLaws.{hallIn, Old, stays-judged, stays-long, becomes-new}
@@ -68,6 +69,7 @@ module _ (b : List ℕ) (n binding mask : ℕ) (o : Old b n) where
         vertex-counts = still _ refl (f .vertex-counts);
         index-counts = still _ refl (f .index-counts);
         indices = still _ refl (f .indices);
+        triangles = still _ refl (f .triangles);
       }
 
   bytes-are : hallBytes result ≡ take n b ++ modelNumbers 6 binding mask
@@ -106,12 +108,12 @@ module _ (b : List ℕ) (n binding mask : ℕ) (o : Old b n) where
         limits-verdict result passes ∙ ap (λ (x : ℕ). verdictOf x) (sym (e ∙ limits-of result (r .models + 1) (r .geometries) (r .units + 3) models geometries size-is))
 
     module _ (lowest : ℕ) (e : lowest ≡ limitsLowest (r .models + 1) (r .geometries) (r .units + 3)) where
-      pub added-judged : lowest < 20 → Stepped (addModel binding mask) b n (Refused (record { check = lowest; needed = 0 })) b
-      added-judged h = stays-judged (addModel binding mask) b n o result proposed-is lowest (verdict-is lowest e ∙ rw (lt-leb 20 lowest h))
+      pub added-judged : lowest < passed → Stepped (addModel binding mask) b n (Refused (record { check = checkOf lowest; needed = 0 })) b
+      added-judged h = stays-judged (addModel binding mask) b n o result proposed-is (checkOf lowest) (verdict-is lowest e ∙ rw (lt-leb passed lowest h))
 
-      module _ (h : 20 ≤ lowest) where
+      module _ (h : passed ≤ lowest) where
         sound : verdict result ≡ Sound
-        sound = verdict-is lowest e ∙ rw (le-leb 20 lowest h)
+        sound = verdict-is lowest e ∙ rw (le-leb passed lowest h)
 
         pub added-long : length b < n + 12 → Stepped (addModel binding mask) b n (Refused (record { check = 24; needed = n + 12 })) b
         added-long l = stays-long (addModel binding mask) b n o result proposed-is sound (n + 12) (sym length-is) l

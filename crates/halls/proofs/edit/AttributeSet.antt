@@ -22,7 +22,7 @@ use Rattle.vertices.proofs.ComponentLaws.{component-among, found-within}
 use Rattle.vertices.proofs.EncodeLaws.{encoded-length}
 use Rattle.vertices.proofs.UnifiedChecks.{components-sized}
 use Rattle.halls.specs.Calls.{Call, setAttribute, proposed, attributeSet, withContent, withGeometry}
-use Rattle.halls.specs.Checks.{vertexBytesExact, stridesAgree, componentsInside, vertexCountsAgree, indexCountsAgree, indicesInRange, imageWithinLimit, verdict}
+use Rattle.halls.specs.Checks.{vertexBytesExact, stridesAgree, componentsInside, vertexCountsAgree, indexCountsAgree, indicesInRange, trianglesDistinct, imageWithinLimit, verdict}
 use Rattle.halls.specs.Hall.{FullGeometry, FullModel, Hall, hallBytes}
 use Rattle.halls.specs.ImageSize.{geometrySize, imageSize}
 use Rattle.halls.specs.List.{recordBytes, geometryRecord, indicesRecord}
@@ -123,6 +123,10 @@ module _ {b : List ℕ} {n m g at : ℕ} (w : Spot b n m g at) (i : ℕ) (v : Li
   unfolding indicesInRange
   indices-pass = rw same-length (spot-passes w indicesInRange (spot-hall w .indices))
 
+  triangles-pass : trianglesDistinct y ≡ true
+  unfolding trianglesDistinct
+  triangles-pass = spot-passes w trianglesDistinct (spot-hall w .triangles)
+
   image-passes : imageWithinLimit (changedHall m g h x y) ≡ true
   unfolding imageWithinLimit geometrySize
   image-passes =
@@ -133,7 +137,7 @@ module _ {b : List ℕ} {n m g at : ℕ} (w : Spot b n m g at) (i : ℕ) (v : Li
   content-sound : verdict after ≡ Sound
   content-sound =
       ap verdict (new-hall w changed refl) ∙ verdict-changed h m g x f (w .in-hall) (w .in-model) y (spot-hall w) refl bytes-pass strides-pass components-pass counts-pass
-      ∙ rw (index-counts-pass, indices-pass, image-passes)
+      ∙ rw (index-counts-pass, indices-pass, triangles-pass, image-passes)
 
   -- a call that proposes it
   pub content-step : (c : Call) → proposed c (stateIn b n) ≡ read after → (t : List ℕ) → t ≡ overwrite b (at + 55 + i) v → Stepped c b n (Accepted n) t

@@ -8,7 +8,7 @@ use native.Mathlib.Omega.{arith}
 use lib.ListN.{length, take, drop, length-append, length-take, length-drop}
 use Rattle.sections.proofs.AddressLaws.{both-true}
 use Rattle.halls.specs.Calls.{replaced}
-use Rattle.halls.specs.Checks.{vertexBytesExact, mappingMatches, geometryCount, countsWithinLimits, stridesAgree, componentsInside, vertexCountsAgree, indexCountsAgree, indicesInRange, imageWithinLimit, require, everyGeometry, verdict}
+use Rattle.halls.specs.Checks.{vertexBytesExact, mappingMatches, geometryCount, countsWithinLimits, stridesAgree, componentsInside, vertexCountsAgree, indexCountsAgree, indicesInRange, trianglesDistinct, imageWithinLimit, require, everyGeometry, verdict}
 use Rattle.halls.specs.Every.{every, sumOf}
 use Rattle.halls.specs.Hall.{FullGeometry, FullModel, Hall, listedGeometry, listedModel, hallBytes}
 use Rattle.halls.specs.ImageSize.{geometrySize, modelSize, imageSize}
@@ -17,8 +17,7 @@ use Rattle.halls.specs.Places.{item}
 use Rattle.halls.specs.declared.check.check.Verdict.the-variants.{Sound}
 use Rattle.halls.proofs.format.BodyLaws.{model-body-length}
 use Rattle.halls.proofs.read.EachLaws.{each-append}
-use Rattle.halls.proofs.EveryLaws.{every-each}
-use Rattle.halls.proofs.check.ScanLaws.{and-true}
+use Rattle.halls.proofs.EveryLaws.{and-true, every-each}
 use Rattle.halls.proofs.edit.SoundEdits.{split-item, item-within, map-replaced, each-item, sum-item, sum-replaced, hall-bytes-append}
 use Rattle.halls.proofs.SoundLaws.{SoundHall}
 use Rattle.halls.proofs.read.ViewLaws.{record-length}
@@ -131,7 +130,7 @@ module _ (h : Hall) (m g : ℕ) (x : FullModel) (f : FullGeometry) (em : item m 
 
     -- where the new geometry has the old one's shader id and passes checks 11 and 14 to 16, checks 17 to 19 decide
     pub verdict-changed : SoundHall h → y .shader ≡ f .shader → vertexBytesExact y ≡ true → stridesAgree y ≡ true → componentsInside y ≡ true → vertexCountsAgree y ≡ true
-        → verdict (changedHall m g h x y) ≡ require 17 (indexCountsAgree y) (require 18 (indicesInRange y) (require 19 (imageWithinLimit (changedHall m g h x y)) Sound))
+        → verdict (changedHall m g h x y) ≡ require 17 (indexCountsAgree y) (require 18 (indicesInRange y) (require 27 (trianglesDistinct y) (require 19 (imageWithinLimit (changedHall m g h x y)) Sound)))
     unfolding verdict
     verdict-changed w same a b c d =
         rw (
@@ -148,4 +147,5 @@ module _ (h : Hall) (m g : ℕ) (x : FullModel) (f : FullGeometry) (em : item m 
           d,
           every-changed indexCountsAgree (w .index-counts),
           every-changed indicesInRange (w .indices),
+          every-changed trianglesDistinct (w .triangles),
         )

@@ -1,6 +1,6 @@
 -- New indices of a geometry: their record, and the list's bytes with them.
-use mathlib.Core.Path.{_≡_, sym, ap, _∙_}
-use mathlib.Core.Bool.{Bool, true, false, _&&_}
+use mathlib.Core.Path.{_≡_, refl, sym, ap, _∙_}
+use mathlib.Core.Bool.{Bool, true, false, cond, _&&_}
 use mathlib.Core.List.{List, _++_, append-assoc}
 use Prim.Native.Nat.{ℕ, _+_, _*_, _-_, _/_, _%_, _≤_, _<_, max}
 use native.Mathlib.Omega.{arith}
@@ -14,11 +14,15 @@ use Rattle.sections.proofs.EditLaws.{edited-behind, edited-fits, overwrite-leng
 use Rattle.sections.proofs.LeLaws.{length-bytes}
 use Rattle.vertices.specs.Runs.{run}
 use Rattle.vertices.proofs.RunLaws.{length-run}
+use Rattle.halls.specs.Checks.{trianglesOf, hasThreeVertices, require}
 use Rattle.halls.specs.Every.{every}
 use Rattle.halls.specs.List.{indicesBody, indicesRecord, recordBytes}
+use Rattle.halls.specs.Inner.Judging.{indicesLowestOf}
+use Rattle.halls.specs.Inner.Order.{passed, tooLarge, verdictOf}
 use Rattle.halls.specs.Inner.NewIndices.{indicesVerdict, indicesOf, withNewIndices}
 use Rattle.halls.specs.Step.{rewritten}
-use Rattle.halls.specs.Inner.Walk.{units, verdictOf}
+use Rattle.halls.specs.Inner.Walk.{units}
+use Rattle.halls.specs.declared.check.check.Verdict.{Verdict}
 use Rattle.halls.proofs.format.BodyLaws.{indices-body-length}
 use Rattle.halls.proofs.edit.RewrittenLaws.{rewritten-length, rewritten-over}
 use Rattle.halls.proofs.read.ViewLaws.{record-length}
@@ -144,6 +148,16 @@ module _ (b : List ℕ) (n at start held : ℕ) (xs : List ℕ) (front : at + 20
 
 -- ---- the checks of new indices
 
+scan-fails : (range three : Bool) (next : Verdict) → (cond range (cond three passed 27) 18 ≡ passed → ⊥) → verdictOf (cond range (cond three passed 27) 18) ≡ require 18 range (require 27 three next)
+scan-fails true true next h = absurd (h refl)
+scan-fails true false next h = refl
+scan-fails false three next h = refl
+
+scan-passes : (range three : Bool) → cond range (cond three passed 27) 18 ≡ passed → (range ≡ true) × (three ≡ true)
+scan-passes true true e = (refl, refl)
+scan-passes true false e = absurd (omega (arith, e))
+scan-passes false three e = absurd (omega (arith, e))
+
 module _ (xs : List ℕ) (count models parts : ℕ) where
   pub lowest-uneven : (length xs % 3 ≡ 0 → ⊥) → verdictOf 17 ≡ indicesVerdict xs count models parts
   unfolding indicesVerdict
@@ -154,16 +168,22 @@ module _ (xs : List ℕ) (count models parts : ℕ) where
     unfolding indicesVerdict
     lowest-few h = rw (eq-eqb (length xs % 3) 0 even, lt-leb 3 (length xs) h)
 
-    module _ (some : 3 ≤ length xs) {r : Bool} (e : r ≡ every (λ (i : ℕ). ltb i count) xs) where
-      pub lowest-outside : r ≡ false → verdictOf 18 ≡ indicesVerdict xs count models parts
-      unfolding indicesVerdict
-      lowest-outside f = rw (eq-eqb (length xs % 3) 0 even, le-leb 3 (length xs) some, ← e, f)
+    module _ (some : 3 ≤ length xs) {t : ℕ} (e : t ≡ indicesLowestOf count xs) where
+      pub lowest-scanned : (t ≡ passed → ⊥) → verdictOf t ≡ indicesVerdict xs count models parts
+      unfolding indicesVerdict indicesLowestOf
+      lowest-scanned h =
+          rw (eq-eqb (length xs % 3) 0 even, le-leb 3 (length xs) some)
+          (ap verdictOf e ∙ scan-fails (every (λ (i : ℕ). ltb i count) xs) (every hasThreeVertices (trianglesOf xs)) _ (λ z. h (e ∙ z)))
 
-      module _ (f : r ≡ true) where
-        pub lowest-long : 4194304 < 1 + units (8 * models) + parts → verdictOf 19 ≡ indicesVerdict xs count models parts
-        unfolding indicesVerdict
-        lowest-long h = rw (eq-eqb (length xs % 3) 0 even, le-leb 3 (length xs) some, ← e, f, lt-leb (1 + units (8 * models) + parts) 4194304 h)
+      module _ (z : t ≡ passed) where
+        pub lowest-long : 4194304 < 1 + units (8 * models) + parts → verdictOf tooLarge ≡ indicesVerdict xs count models parts
+        unfolding indicesVerdict indicesLowestOf
+        lowest-long h =
+            let pass = scan-passes (every (λ (i : ℕ). ltb i count) xs) (every hasThreeVertices (trianglesOf xs)) (sym e ∙ z) in
+            rw (eq-eqb (length xs % 3) 0 even, le-leb 3 (length xs) some, pass .0, pass .1, lt-leb (1 + units (8 * models) + parts) 4194304 h)
 
-        pub lowest-none : 1 + units (8 * models) + parts ≤ 4194304 → verdictOf 20 ≡ indicesVerdict xs count models parts
-        unfolding indicesVerdict
-        lowest-none h = rw (eq-eqb (length xs % 3) 0 even, le-leb 3 (length xs) some, ← e, f, le-leb (1 + units (8 * models) + parts) 4194304 h)
+        pub lowest-none : 1 + units (8 * models) + parts ≤ 4194304 → verdictOf passed ≡ indicesVerdict xs count models parts
+        unfolding indicesVerdict indicesLowestOf
+        lowest-none h =
+            let pass = scan-passes (every (λ (i : ℕ). ltb i count) xs) (every hasThreeVertices (trianglesOf xs)) (sym e ∙ z) in
+            rw (eq-eqb (length xs % 3) 0 even, le-leb 3 (length xs) some, pass .0, pass .1, le-leb (1 + units (8 * models) + parts) 4194304 h)

@@ -15,7 +15,7 @@ use Rattle.sections.proofs.EditLaws.{overwrite-all}
 use Rattle.sections.proofs.LeLaws.{length-bytes}
 use Rattle.vertices.specs.Runs.{run}
 use Rattle.halls.specs.Calls.{Call, replaceIndices, proposed, withIndices, withGeometry}
-use Rattle.halls.specs.Checks.{vertexBytesExact, stridesAgree, componentsInside, vertexCountsAgree, indexCountsAgree, indicesInRange, geometryCount, countsWithinLimits, imageWithinLimit, verdict}
+use Rattle.halls.specs.Checks.{vertexBytesExact, stridesAgree, componentsInside, vertexCountsAgree, indexCountsAgree, indicesInRange, trianglesDistinct, geometryCount, countsWithinLimits, imageWithinLimit, verdict}
 use Rattle.halls.specs.Hall.{FullGeometry, FullModel, Hall, hallBytes}
 use Rattle.halls.specs.ImageSize.{geometrySize, modelSize, imageSize}
 use Rattle.halls.specs.List.{indicesRecord}
@@ -24,7 +24,8 @@ use Rattle.halls.specs.Places.{geometryPlace, foundGeometry}
 use Rattle.halls.specs.Reading.{read}
 use Rattle.halls.specs.State.{Geometry, vertexCount, fullGeometry, fullModel, hallOf}
 use Rattle.halls.specs.Step.{stateIn, rewritten, Stepped}
-use Rattle.halls.specs.Inner.Walk.{Counted, units, verdictOf}
+use Rattle.halls.specs.Inner.Walk.{Counted, units}
+use Rattle.halls.specs.Inner.Order.{passed, checkOf, verdictOf}
 use Rattle.halls.specs.declared.answer.Answer.the-variants.{Accepted, Refused}
 use Rattle.halls.specs.declared.check.check.Verdict.the-variants.{Sound}
 use Rattle.halls.specs.declared.check.find.FoundGeometry.the-variants.{Absent as NoGeometry}
@@ -186,7 +187,7 @@ module _ {b : List ℕ} {n m g at : ℕ} (w : Spot b n m g at) (xs : List ℕ) w
     image-is = omega (arith, c .image, old-units, image-changed h m g x f (w .in-hall) (w .in-model) y)
 
     pub new-verdict : verdict after ≡ indicesVerdict xs (vertexCount (w .geometry)) (r .models) parts
-    unfolding indicesVerdict indicesInRange imageWithinLimit
+    unfolding indicesVerdict indicesInRange trianglesDistinct imageWithinLimit
     new-verdict =
         ap verdict (new-hall w changed refl) ∙ verdict-changed h m g x f (w .in-hall) (w .in-model) y (spot-hall w) refl bytes-pass strides-pass components-pass counts-pass
         ∙ rw (index-counts-are, ← image-is, sixteenth (1 + units (8 * r .models) + parts))
@@ -237,12 +238,12 @@ module _ {b : List ℕ} {n m g at : ℕ} (w : Spot b n m g at) (xs : List ℕ) w
               new-verdict r c ∙ ap (λ (z : ℕ). indicesVerdict xs z (r .models) (r .units - units (2 * held) + units (2 * length xs))) (sym (count ∙ spot-count w))
               ∙ ap (λ (z : ℕ). indicesVerdict xs k (r .models) (r .units - units (2 * z) + units (2 * length xs))) (sym held-is) ∙ sym v
 
-          pub replaced-fails : lowest < 20 → Stepped call b n (Refused (record { check = lowest; needed = 0 })) b
-          replaced-fails f = stays-judged call b n (w .old) after proposed-is lowest (verdict-after ∙ rw (lt-leb 20 lowest f))
+          pub replaced-fails : lowest < passed → Stepped call b n (Refused (record { check = checkOf lowest; needed = 0 })) b
+          replaced-fails f = stays-judged call b n (w .old) after proposed-is (checkOf lowest) (verdict-after ∙ rw (lt-leb passed lowest f))
 
-          module _ (p : 20 ≤ lowest) where
+          module _ (p : passed ≤ lowest) where
             after-sound : verdict after ≡ Sound
-            after-sound = verdict-after ∙ rw (le-leb 20 lowest p)
+            after-sound = verdict-after ∙ rw (le-leb passed lowest p)
 
             pub few-indices : 4 + 4 * length xs ≤ 134217732
             unfolding imageWithinLimit

@@ -1,11 +1,9 @@
 -- The geometry that a view shows: it is the one that is read, and its checks are those of its numbers and of its indices as they lie.
 use mathlib.Core.Path.{_≡_, refl, sym, ap, _∙_}
-use mathlib.Core.Bool.{Bool, cond}
 use mathlib.Core.List.{List}
 use mathlib.Core.Option.{Option, none, some, Option·map, Option·getD}
 use Prim.Native.Nat.{ℕ, _+_, _*_, _/_}
 use native.Mathlib.Omega.{arith}
-use lib.Dec.{ltb}
 use Rattle.sections.specs.Address.{Sections, rangeOf, resolved}
 use Rattle.vertices.specs.Buffer.{vertexBufferAt, orPositionOnly}
 use Rattle.vertices.specs.Declaration.{positionOnly}
@@ -15,19 +13,18 @@ use Rattle.vertices.specs.declared.buffer.StoredDeclaration.{StoredDeclaration}
 use Rattle.vertices.specs.declared.buffer.StoredDeclaration.the-variants.{Declaration, Absent}
 use Rattle.vertices.specs.declared.buffer.VertexBuffer.{VertexBuffer}
 use Rattle.halls.specs.Blocks.{GeometryBlock, indexBlock}
-use Rattle.halls.specs.Checks.{indicesInRange}
-use Rattle.halls.specs.Every.{every}
-use Rattle.halls.specs.Inner.Judging.{HeadJudged, headOf, lowestOf}
+use Rattle.halls.specs.Inner.Judging.{HeadJudged, headOf, indicesLowestOf, lowestOf}
+use Rattle.halls.specs.Inner.Order.{passed}
 use Rattle.halls.specs.Reading.{orEmpty, declarationOf, verticesOf, indicesOf, geometryWith, geometryOf}
 use Rattle.halls.specs.Inner.Taking.{indicesShown, geometryShown, asHalls, lowestIn, contentIn, heldIn, geometryTaken, contentSeen, heldSeen, fullShown, headSeen}
-use Rattle.halls.specs.Inner.View.{indexViewIn, indicesIn, indicesSeen, bufferIn, viewWith, geometryView, BufferHeld}
+use Rattle.halls.specs.Inner.View.{indexViewIn, heldCount, indicesIn, indicesSeen, bufferIn, viewWith, geometryView, BufferHeld}
 use Rattle.halls.specs.declared.edit.judge_read.Taken.{Taken}
 use Rattle.halls.specs.declared.read.view.FoundIndices.{FoundIndices}
 use Rattle.halls.specs.declared.read.view.FoundIndices.the-variants.{Indices as Seen, Absent as Unseen}
 use Rattle.halls.specs.declared.read.view.GeometryView.{GeometryView}
 use Rattle.halls.specs.declared.read.view.IndexView.{IndexView}
 use Rattle.halls.proofs.read.HeldLaws.{items-length}
-use Rattle.halls.proofs.check.JudgingLaws.{lowest-head, lowest-counts, lowest-range}
+use Rattle.halls.proofs.check.JudgingLaws.{lowest-head, lowest-vertices, lowest-triangles, lowest-scanned}
 use Rattle.halls.proofs.read.ViewLaws.{buffer-in-found, block-view-is}
 
 indices-shown : (s : Sections) (o : Option (List ℕ)) → indicesShown s (indexViewIn s o) ≡ Option·map (λ raw. indicesOf s (indexBlock raw)) o
@@ -83,13 +80,16 @@ module _ (s : Sections) (v : GeometryView) (b : VertexBuffer) (i : IndexView) wh
   head-shown = rw (items-length i (orEmpty (rangeOf s (i .place) (i .count * i .width))))
 
   module _ {r : ℕ} (j : HeadJudged (headSeen v b i) r) where
-    pub full-head : (r ≡ 20 → ⊥) → r ≡ lowestOf (fullShown s v b i)
+    pub full-head : (r ≡ passed → ⊥) → r ≡ lowestOf (fullShown s v b i)
     full-head f = lowest-head (fullShown s v b i) head-shown j f
 
-    pub full-scanned : {t : Bool} → r ≡ 20 → t ≡ every (λ (x : ℕ). ltb x (v .«vertex_count»)) (indicesSeen s i .items) → cond t 20 18 ≡ lowestOf (fullShown s v b i)
-    unfolding fullShown indicesInRange
-    full-scanned {t} z q =
-        let g = fullShown s v b i in
-        let counts : v .«vertex_count» ≡ b .«vertex_count» = lowest-counts g head-shown j z in
-        let range : t ≡ indicesInRange g = q ∙ ap (λ (n : ℕ). every (λ (x : ℕ). ltb x n) (indicesSeen s i .items)) counts in
-        ap (λ (x : Bool). cond x 20 18) range ∙ lowest-range g head-shown j z
+    module _ (z : r ≡ passed) where
+      pub full-triangles : heldCount i ≡ 3 * v .«triangle_count»
+      unfolding fullShown
+      full-triangles = sym (items-length i (orEmpty (rangeOf s (i .place) (i .count * i .width)))) ∙ lowest-triangles (fullShown s v b i) head-shown j z
+
+      pub full-scanned : {t : ℕ} → t ≡ indicesLowestOf (v .«vertex_count») (indicesSeen s i .items) → t ≡ lowestOf (fullShown s v b i)
+      unfolding fullShown
+      full-scanned q =
+          let counts : v .«vertex_count» ≡ b .«vertex_count» = lowest-vertices (fullShown s v b i) head-shown j z in
+          lowest-scanned (fullShown s v b i) head-shown j z (q ∙ ap (λ (n : ℕ). indicesLowestOf n (indicesSeen s i .items)) counts)

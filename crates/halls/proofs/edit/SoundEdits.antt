@@ -11,7 +11,7 @@ use lib.ListN.{length, take, drop, length-append, length-take, length-drop}
 use Rattle.sections.proofs.AddressLaws.{both-true}
 use Rattle.vertices.specs.Declaration.{totalSize}
 use Rattle.halls.specs.Calls.{without, replaced}
-use Rattle.halls.specs.Checks.{vertexBytesExact, sameNumbers, shaderIds, mappingMatches, geometryCount, countsWithinLimits, stridesAgree, componentsInside, vertexCountsAgree, held, indexCountsAgree, indicesInRange, imageWithinLimit, everyGeometry, verdict}
+use Rattle.halls.specs.Checks.{vertexBytesExact, sameNumbers, shaderIds, mappingMatches, geometryCount, countsWithinLimits, stridesAgree, componentsInside, vertexCountsAgree, held, indexCountsAgree, indicesInRange, trianglesDistinct, imageWithinLimit, everyGeometry, verdict}
 use Rattle.halls.specs.Every.{every, sumOf, Each}
 use Rattle.halls.specs.Hall.{FullGeometry, FullModel, Hall, listedModel, hallBytes}
 use Rattle.halls.specs.ImageSize.{modelSize, imageSize}
@@ -164,7 +164,7 @@ module _ (h : Hall) (w : Each SoundModel h) where
       (each-to (λ (m : FullModel) (v : SoundModel m). each-every test (m .geometries) (each-to f (m .geometries) (v .geometries))) h w)
 
   pub verdict-models : countsWithinLimits h ≡ true → imageWithinLimit h ≡ true → verdict h ≡ Sound
-  unfolding vertexBytesExact mappingMatches stridesAgree componentsInside vertexCountsAgree indexCountsAgree indicesInRange
+  unfolding vertexBytesExact mappingMatches stridesAgree componentsInside vertexCountsAgree indexCountsAgree indicesInRange trianglesDistinct
   verdict-models counts image = sound-verdict h (record {
     vertex-bytes = every-geometry vertexBytesExact (λ g v. eq-eqb (length (g .vertices .content)) (g .vertices .count * g .vertices .stride) (v .content));
     mappings = each-every mappingMatches h (each-to (λ (m : FullModel) (v : SoundModel m). rw (v .mapping) (same-itself (shaderIds (m .geometries)))) h w);
@@ -177,6 +177,7 @@ module _ (h : Hall) (w : Each SoundModel h) where
     index-counts = every-geometry indexCountsAgree
         (λ g v. rw (eq-eqb (g .indexCount) (held g) (v .index-count), eq-eqb (g .indices .count) (held g) (v .indices-count), eq-eqb (held g) (3 * g .triangleCount) (v .thirds), le-leb 3 (held g) (v .some-indices)));
     indices = every-geometry indicesInRange (λ g v. v .in-range);
+    triangles = every-geometry trianglesDistinct (λ g v. v .three-vertices);
     image = image;
   })
 

@@ -17,7 +17,7 @@ use Rattle.halls.specs.Reading.{refused, read}
 use Rattle.halls.specs.Records.{records}
 use Rattle.halls.specs.State.{hallOf, stateOf, stateBytes}
 use Rattle.halls.specs.Step.{Step, stays, becomes, settled, stateIn, stepIn, rewritten, stepAnswer, stepBytes, Stepped}
-use Rattle.halls.specs.Inner.Judging.{passed}
+use Rattle.halls.specs.Inner.Order.{passed, checkOf}
 use Rattle.halls.specs.Inner.Walk.{ExaminedFirst}
 use Rattle.halls.specs.declared.answer.Answer.{Answer}
 use Rattle.halls.specs.declared.answer.Answer.the-variants.{Accepted, Refused}
@@ -68,10 +68,10 @@ old b n below e =
 
 -- ---- what the walk found
 
-pub lowest-fails : (b : List ℕ) (n : ℕ) (r : Summary) → ExaminedFirst b n r → r .lowest < 20 → hallVerdict b n ≡ Fails (r .lowest)
+pub lowest-fails : (b : List ℕ) (n : ℕ) (r : Summary) → ExaminedFirst b n r → r .lowest < passed → hallVerdict b n ≡ Fails (checkOf (r .lowest))
 lowest-fails b n r x h = sym (x .verdict) ∙ rw (lt-leb passed (r .lowest) h)
 
-pub lowest-sound : (b : List ℕ) (n : ℕ) (r : Summary) → ExaminedFirst b n r → 20 ≤ r .lowest → hallVerdict b n ≡ Sound
+pub lowest-sound : (b : List ℕ) (n : ℕ) (r : Summary) → ExaminedFirst b n r → passed ≤ r .lowest → hallVerdict b n ≡ Sound
 lowest-sound b n r x h = sym (x .verdict) ∙ rw (le-leb passed (r .lowest) h)
 
 -- ---- one call

@@ -20,7 +20,7 @@ use Rattle.halls.specs.State.{State}
 use Rattle.halls.specs.Step.{rewritten, Stepped, stateIn}
 use Rattle.halls.specs.Inner.Taking.{allTaken, modelTaken, modelBytes, orEmptyList, headerOrEmpty}
 use Rattle.halls.specs.Inner.View.{modelsAt}
-use Rattle.halls.specs.Inner.Walk.{verdictOf}
+use Rattle.halls.specs.Inner.Order.{passed, checkOf, verdictOf}
 use Rattle.halls.specs.declared.answer.Answer.the-variants.{Accepted, Refused}
 use Rattle.halls.specs.declared.check.check.Verdict.the-variants.{Sound, Fails}
 use Rattle.halls.specs.declared.edit.judge_read.Taken.{Taken}
@@ -103,17 +103,17 @@ module _ (s : Sections) (va : ℕ) (b : List ℕ) (n : ℕ) (old : Old b n) (ps 
     same-lowest = l ∙ ap lowestTaken e
 
     -- checks 11 to 19
-    pub taken-fails : lowest < 20 → Stepped (takeIn s va) b n (Refused (record { check = lowest; needed = 0 })) b
+    pub taken-fails : lowest < passed → Stepped (takeIn s va) b n (Refused (record { check = checkOf lowest; needed = 0 })) b
     taken-fails low = on (allOf takenModel (modelsAt s ps)) refl
       where
-        on : (o : Option Hall) → allOf takenModel (modelsAt s ps) ≡ o → Stepped (takeIn s va) b n (Refused (record { check = lowest; needed = 0 })) b
-        on none a = stays-barred (takeIn s va) b n old lowest (is ∙ ap (λ (o : Option Hall). need 11 o read) a ∙ ap refused (sym (same-lowest ∙ taken-verdict s ps none a)))
+        on : (o : Option Hall) → allOf takenModel (modelsAt s ps) ≡ o → Stepped (takeIn s va) b n (Refused (record { check = checkOf lowest; needed = 0 })) b
+        on none a = stays-barred (takeIn s va) b n old (checkOf lowest) (is ∙ ap (λ (o : Option Hall). need 11 o read) a ∙ ap (λ (z : ℕ). refused (checkOf z)) (sym (same-lowest ∙ taken-verdict s ps none a)))
         on (some h) a =
             let judged = taken-verdict s ps (some h) a in
-            let fails : verdict h ≡ Fails lowest = sym (judged .0) ∙ ap verdictOf (sym same-lowest) ∙ rw (lt-leb 20 lowest low) in
-            stays-judged (takeIn s va) b n old h (is ∙ ap (λ (o : Option Hall). need 11 o read) a) lowest fails
+            let fails : verdict h ≡ Fails (checkOf lowest) = sym (judged .0) ∙ ap verdictOf (sym same-lowest) ∙ rw (lt-leb passed lowest low) in
+            stays-judged (takeIn s va) b n old h (is ∙ ap (λ (o : Option Hall). need 11 o read) a) (checkOf lowest) fails
 
-    module _ (sound : 20 ≤ lowest) where
+    module _ (sound : passed ≤ lowest) where
       -- no part is lacking, and the hall is sound
       pub record Proposed : Type 0 where
         pub hall : Hall
@@ -131,7 +131,7 @@ module _ (s : Sections) (va : ℕ) (b : List ℕ) (n : ℕ) (old : Old b n) (ps 
               record {
                 hall = h;
                 made = a;
-                verdict-is = sym (judged .0) ∙ ap verdictOf (sym same-lowest) ∙ rw (le-leb 20 lowest sound);
+                verdict-is = sym (judged .0) ∙ ap verdictOf (sym same-lowest) ∙ rw (le-leb passed lowest sound);
                 long = ap (λ (x : Taken). x .«length») e ∙ judged .1;
               }
 

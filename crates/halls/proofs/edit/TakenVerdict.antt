@@ -19,11 +19,12 @@ use Rattle.halls.specs.Every.{every, sumOf, Each}
 use Rattle.halls.specs.Hall.{FullGeometry, FullModel, Hall, listedGeometry, listedModel, hallBytes}
 use Rattle.halls.specs.ImageSize.{geometrySize, modelSize, imageSize}
 use Rattle.halls.specs.Inner.Judging.{lowestOf}
+use Rattle.halls.specs.Inner.Order.{passed, verdictOf}
 use Rattle.halls.specs.List.{Vertices, Indices, Geometry, Model, each, writeGeometry, writeGeometries, writeModel, modelRecord, modelBody}
 use Rattle.halls.specs.Reading.{verticesOf, geometryWith, geometryOf}
 use Rattle.halls.specs.Inner.Taking.{asHalls, geometryTaken, nothingTaken, together, allTaken, recordTaken, modelTaken}
 use Rattle.halls.specs.Inner.View.{modelsAt}
-use Rattle.halls.specs.Inner.Walk.{units, verdictOf, limitsLowest}
+use Rattle.halls.specs.Inner.Walk.{units, limitsLowest}
 use Rattle.halls.specs.declared.edit.judge_read.Taken.{Taken}
 use Rattle.halls.proofs.format.BodyLaws.{model-body-length}
 use Rattle.halls.proofs.check.ExaminedLaws.{limits-low}
@@ -165,7 +166,7 @@ model-long : (m : FullModel) → length (writeModel (listedModel m)) ≡ 12 + 2 
 unfolding writeModel modelRecord
 model-long m = rw (length-append, record-length 1 (modelBody (listedModel m)), model-body-length m) (omega arith)
 
-lower-three : (a b : ℕ) → min (min 20 a) b ≡ min 20 (min a b)
+lower-three : (a b : ℕ) → min (min passed a) b ≡ min passed (min a b)
 lower-three a b = omega arith
 
 models-more : (m : Model) (n : ℕ) (p : Option (List FullGeometry)) (h : Option Hall) (t u : Taken) → t .geometries ≡ n → GeometriesJudged p t → ModelsJudged h u

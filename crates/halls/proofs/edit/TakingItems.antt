@@ -6,6 +6,7 @@ use native.Mathlib.Numerals.{add-one}
 use native.Mathlib.Omega.{arith}
 use Rattle.halls.specs.Inner.Taking.{nothingTaken, together, allTaken, recordTaken, Fitting}
 use Rattle.halls.specs.declared.edit.judge_read.Taken.{Taken}
+use Rattle.halls.specs.Inner.Order.{passed}
 
 -- ---- sums
 
@@ -19,18 +20,18 @@ together-assoc : (a b c : Taken) → together (together a b) c ≡ together a (t
 together-assoc a b c = same-taken (omega arith) (omega arith) (omega arith) (omega arith) (omega arith)
 
 -- with nothing before or behind it stays as it is
-nothing-before : (t : Taken) → t .lowest ≤ 20 → together nothingTaken t ≡ t
+nothing-before : (t : Taken) → t .lowest ≤ passed → together nothingTaken t ≡ t
 nothing-before t h = same-taken (omega arith) (omega arith) (omega arith) (omega arith) (omega arith)
 
-pub nothing-behind : (t : Taken) → t .lowest ≤ 20 → together t nothingTaken ≡ t
+pub nothing-behind : (t : Taken) → t .lowest ≤ passed → together t nothingTaken ≡ t
 nothing-behind t h = same-taken (omega arith) (omega arith) (omega arith) (omega arith) (omega arith)
 
 -- a model's record, by its entries
-pub record-taken : (n : ℕ) → taken 20 1 0 (3 + (n + 1) / 2 + (n + 7) / 8) (12 + 2 * n) ≡ recordTaken n
+pub record-taken : (n : ℕ) → taken passed 1 0 (3 + (n + 1) / 2 + (n + 7) / 8) (12 + 2 * n) ≡ recordTaken n
 record-taken n = same-taken refl refl refl (omega arith) refl
 
 module _ {A : Type 0} (f : A → Taken) where
-  all-low : (xs : List A) → allTaken f xs .lowest ≤ 20
+  all-low : (xs : List A) → allTaken f xs .lowest ≤ passed
   unfolding allTaken
   all-low [] = omega arith
   all-low (x ∷ xs) = omega (arith, all-low xs)

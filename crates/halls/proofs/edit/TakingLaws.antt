@@ -8,9 +8,10 @@ use native.Mathlib.Omega.{arith}
 use lib.ListN.{length}
 use Rattle.sections.specs.Address.{Sections, resolved}
 use Rattle.halls.specs.Blocks.{ModelBlock, modelBlock, geometryBlock}
-use Rattle.halls.specs.Checks.{stridesAgree, componentsInside, vertexCountsAgree, indexCountsAgree, indicesInRange}
+use Rattle.halls.specs.Checks.{stridesAgree, componentsInside, vertexCountsAgree, indexCountsAgree, indicesInRange, trianglesDistinct}
 use Rattle.halls.specs.Hall.{FullGeometry}
 use Rattle.halls.specs.Inner.Judging.{lowestOf}
+use Rattle.halls.specs.Inner.Order.{passed}
 use Rattle.halls.specs.List.{Geometry, Model}
 use Rattle.halls.specs.Reading.{geometryOf}
 use Rattle.halls.specs.Inner.Taking.{geometryShown, asHalls, lowestIn, geometryTaken, together, allTaken, recordTaken, modelTaken, Fitting}
@@ -24,19 +25,20 @@ use Rattle.halls.proofs.edit.TakingItems.{nothing-behind, fits-second}
 
 -- ---- one geometry
 
-lowest-bounds : (a b c d e : Bool) → (11 ≤ cond a (cond b (cond c (cond d (cond e 20 18) 17) 16) 15) 14) × (cond a (cond b (cond c (cond d (cond e 20 18) 17) 16) 15) 14 ≤ 20)
-lowest-bounds false b c d e = (omega arith, omega arith)
-lowest-bounds true false c d e = (omega arith, omega arith)
-lowest-bounds true true false d e = (omega arith, omega arith)
-lowest-bounds true true true false e = (omega arith, omega arith)
-lowest-bounds true true true true false = (omega arith, omega arith)
-lowest-bounds true true true true true = (omega arith, omega arith)
+lowest-bounds : (a b c d e f : Bool) → (11 ≤ cond a (cond b (cond c (cond d (cond e (cond f passed 27) 18) 17) 16) 15) 14) × (cond a (cond b (cond c (cond d (cond e (cond f passed 27) 18) 17) 16) 15) 14 ≤ passed)
+lowest-bounds false b c d e f = (omega arith, omega arith)
+lowest-bounds true false c d e f = (omega arith, omega arith)
+lowest-bounds true true false d e f = (omega arith, omega arith)
+lowest-bounds true true true false e f = (omega arith, omega arith)
+lowest-bounds true true true true false f = (omega arith, omega arith)
+lowest-bounds true true true true true false = (omega arith, omega arith)
+lowest-bounds true true true true true true = (omega arith, omega arith)
 
-pub of-bounds : (g : FullGeometry) → (11 ≤ lowestOf g) × (lowestOf g ≤ 20)
+pub of-bounds : (g : FullGeometry) → (11 ≤ lowestOf g) × (lowestOf g ≤ passed)
 unfolding lowestOf
-of-bounds g = lowest-bounds (stridesAgree g) (componentsInside g) (vertexCountsAgree g) (indexCountsAgree g) (indicesInRange g)
+of-bounds g = lowest-bounds (stridesAgree g) (componentsInside g) (vertexCountsAgree g) (indexCountsAgree g) (indicesInRange g) (trianglesDistinct g)
 
-in-low : (o : Option FullGeometry) → lowestIn o ≤ 20
+in-low : (o : Option FullGeometry) → lowestIn o ≤ passed
 in-low none = omega arith
 in-low (some g) = of-bounds g .1
 

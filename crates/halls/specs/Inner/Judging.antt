@@ -1,32 +1,38 @@
--- How the check finds its verdict in one pass: the lowest number that a geometry fails, and whether a model or a geometry stands at the front of some bytes.
+-- How the check finds its verdict in one pass: the lowest rank of a check that a geometry fails, and whether a model or a geometry stands at the front of some bytes.
 -- Private contracts speak of this; `JudgingLaws` and `WalkLaws` tie it to the verdict.
 use mathlib.Core.Path.{_≡_}
 use mathlib.Core.Bool.{Bool, cond, _&&_}
 use mathlib.Core.List.{List}
 use Prim.Native.Nat.{ℕ, _+_, _*_}
-use lib.Dec.{eqb, leb}
+use lib.Dec.{eqb, leb, ltb}
 use lib.ListN.{length}
 use Rattle.sections.specs.Edit.{fits}
 use Rattle.sections.specs.Le.{field}
 use Rattle.vertices.specs.Declaration.{componentOf, totalSize}
 use Rattle.vertices.specs.declared.declaration.VertexDeclaration.{VertexDeclaration}
-use Rattle.halls.specs.Checks.{vertexBytesExact, stridesAgree, hasSize, componentsInside, vertexCountsAgree, indexCountsAgree, indicesInRange}
+use Rattle.halls.specs.Checks.{vertexBytesExact, stridesAgree, hasSize, componentsInside, vertexCountsAgree, indexCountsAgree, indicesInRange, trianglesOf, hasThreeVertices, trianglesDistinct}
+use Rattle.halls.specs.Every.{every}
 use Rattle.halls.specs.Fronts.{entriesAt, contentAt, heldAt}
 use Rattle.halls.specs.Hall.{FullGeometry}
+use Rattle.halls.specs.Inner.Order.{passed}
 use Rattle.halls.specs.declared.check.geometry.GeometryHead.{GeometryHead}
 
 -- ---- one geometry
 
--- a number above all checks: nothing fails
-abbrev pub passed : ℕ
-passed = 20
-
--- of checks 14 to 17, and of 14 to 18, the lowest that a geometry fails
+-- of checks 14 to 17, and of 14 to 18 and 27, the first that a geometry fails
 abbrev pub headLowest : FullGeometry → ℕ → ℕ
 headLowest g next = cond (stridesAgree g) (cond (componentsInside g) (cond (vertexCountsAgree g) (cond (indexCountsAgree g) next 17) 16) 15) 14
 
+-- of checks 18 and 27
+abbrev pub indicesLowest : FullGeometry → ℕ
+indicesLowest g = cond (indicesInRange g) (cond (trianglesDistinct g) passed 27) 18
+
+-- the same of indices, where the geometry has so many vertices
+unfoldable pub indicesLowestOf : ℕ → List ℕ → ℕ
+indicesLowestOf limit xs = cond (every (λ (i : ℕ). ltb i limit) xs) (cond (every hasThreeVertices (trianglesOf xs)) passed 27) 18
+
 unfoldable pub lowestOf : FullGeometry → ℕ
-lowestOf g = headLowest g (cond (indicesInRange g) passed 18)
+lowestOf g = headLowest g (indicesLowest g)
 
 -- check 15 by declaration and stride
 unfoldable pub insideStride : VertexDeclaration → ℕ → Bool

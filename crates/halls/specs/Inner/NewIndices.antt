@@ -6,20 +6,21 @@ use lib.Dec.{eqb, leb, ltb}
 use lib.ListN.{length, take, drop}
 use Rattle.sections.specs.Edit.{overwrite}
 use Rattle.sections.specs.Le.{bytes}
-use Rattle.halls.specs.Checks.{require}
+use Rattle.halls.specs.Checks.{require, trianglesOf, hasThreeVertices}
 use Rattle.halls.specs.Every.{every}
 use Rattle.halls.specs.List.{Indices, indicesRecord}
 use Rattle.halls.specs.Inner.Walk.{units}
 use Rattle.halls.specs.declared.check.check.Verdict.{Verdict}
 use Rattle.halls.specs.declared.check.check.Verdict.the-variants.{Sound}
 
--- checks 17 to 19: of indices of `count` vertices in a hall of so many models, whose parts of the image have so many units then
+-- checks 17, 18, 27 and 19: of indices of `count` vertices in a hall of so many models, whose parts of the image have so many units then
 unfoldable pub indicesVerdict : List ℕ → ℕ → ℕ → ℕ → Verdict
 indicesVerdict xs count models parts =
     require 17 (eqb (length xs % 3) 0 && leb 3 (length xs))
     (require 18 (every (λ (i : ℕ). ltb i count) xs)
+    (require 27 (every hasThreeVertices (trianglesOf xs))
     (require 19 (leb (1 + units (8 * models) + parts) 4194304)
-    Sound))
+    Sound)))
 
 abbrev pub indicesOf : List ℕ → Indices
 indicesOf xs = record { count = length xs; items = xs }

@@ -10,7 +10,8 @@ use Rattle.sections.specs.declared.lists.FoundHeader.the-variants.{Header, Unre
 use Rattle.sections.specs.declared.lists.PointerListHeader.{PointerListHeader}
 use Rattle.halls.specs.Calls.{takenGeometry}
 use Rattle.halls.specs.Hall.{FullGeometry, listedGeometry}
-use Rattle.halls.specs.Inner.Judging.{passed, lowestOf}
+use Rattle.halls.specs.Inner.Judging.{lowestOf}
+use Rattle.halls.specs.Inner.Order.{passed}
 use Rattle.halls.specs.List.{Vertices, Indices, Geometry, Model, optional, each, recordBytes, geometryRecord, declarationRecord, verticesRecord, indicesRecord, writeGeometry}
 use Rattle.sections.specs.Le.{bytes}
 use Rattle.vertices.specs.Runs.{run}

@@ -11,11 +11,11 @@ use Rattle.halls.specs.Checks.{geometryCount, judged, hallVerdict}
 use Rattle.halls.specs.Hall.{FullGeometry, Hall}
 use Rattle.halls.specs.ImageSize.{imageSize}
 use Rattle.halls.specs.Fronts.{entriesAt, contentAt, heldAt}
-use Rattle.halls.specs.Inner.Judging.{passed, lowestOf, hasModel, hasGeometry}
+use Rattle.halls.specs.Inner.Judging.{lowestOf, hasModel, hasGeometry}
+use Rattle.halls.specs.Inner.Order.{passed, tooLarge, failing, verdictOf}
 use Rattle.halls.specs.Parsing.{whole, ordered, exact, mappingCount, bodyAt, geometryIn, modelsIn, parse, structured}
 use Rattle.halls.specs.Records.{Record, records}
-use Rattle.halls.specs.declared.check.check.Verdict.{Verdict}
-use Rattle.halls.specs.declared.check.check.Verdict.the-variants.{Sound, Fails}
+use Rattle.halls.specs.declared.check.check.Verdict.the-variants.{Sound}
 use Rattle.halls.specs.declared.format.front.Front.{Front}
 use Rattle.halls.specs.declared.format.front.Front.the-variants.{Model, Geometry, Broken}
 use Rattle.halls.specs.declared.check.pass.Tally.{Tally}
@@ -47,13 +47,10 @@ abbrev pub isEmpty : List ℕ → Bool
 isEmpty [] = true
 isEmpty (y ∷ ys) = false
 
-abbrev pub failing : ℕ → Bool → ℕ
-failing check ok = cond ok passed check
-
 abbrev pub geometryOf : Record → List Record → FullGeometry
 geometryOf r rs = geometryIn (r .body) (bodyAt 0 rs) (bodyAt 1 rs) (bodyAt 2 rs)
 
--- the lowest of checks 12 and 14 to 18 that fails, where `left` is what geometries have not answered of the last model's mapping
+-- the lowest rank of checks 12, 14 to 18 and 27 that fails, where `left` is what geometries have not answered of the last model's mapping
 unfoldable pub lowestFrom : List ℕ → List Record → ℕ
 lowestFrom left [] = failing 12 (isEmpty left)
 lowestFrom left (r ∷ rs) =
@@ -115,12 +112,9 @@ Turned s t Stop = structured s ≡ false
 
 -- ---- what it found
 
-abbrev pub verdictOf : ℕ → Verdict
-verdictOf lowest = cond (leb passed lowest) Sound (Fails lowest)
-
 -- checks 13 and 19, where `parts` are the units of the models
 unfoldable pub limitsLowest : ℕ → ℕ → ℕ → ℕ
-limitsLowest models geometries parts = cond (leb models 256 && leb geometries 16384) (failing 19 (leb (1 + units (8 * models) + parts) 4194304)) 13
+limitsLowest models geometries parts = cond (leb models 256 && leb geometries 16384) (failing tooLarge (leb (1 + units (8 * models) + parts) 4194304)) 13
 
 abbrev pub summaryOf : ℕ → Tally → Summary
 summaryOf lowest t = record { lowest = lowest; models = t .models; geometries = t .geometries; units = t .units }

@@ -1,11 +1,12 @@
-// The hall check: whether a list is a hall (document 01, checks 11 to 19).
+// The hall check: whether a list is a hall (document 01, checks 11 to 19; document 02, check 27).
 ghost use mathlib.Core.Path.{_≡_};
 ghost use Rattle.halls.specs.Checks.{hallVerdict};
-ghost use Rattle.halls.specs.Inner.Walk.{ExaminedFirst, verdictOf};
+ghost use Rattle.halls.specs.Inner.Walk.{ExaminedFirst};
+use crate::check::order::verdict_of;
 use crate::check::pass::Summary;
 use crate::check::pass::examine;
 
-// The lowest check that fails anywhere in the hall.
+// The first check, in the order in which they are asked, that fails anywhere in the hall.
 pub enum Verdict {
     Sound,
     Fails(u8),
@@ -32,13 +33,4 @@ pub fn examine_first(hall: &[u8], n: usize) -> Summary
         };
     }
     examine(&hall[..n])
-}
-
-fn verdict_of(lowest: u8) -> Verdict
-    ensures { λ r. ⌜ r ≡ verdictOf lowest ⌝ }
-{
-    if lowest < 20 {
-        return Verdict::Fails(lowest);
-    }
-    Verdict::Sound
 }

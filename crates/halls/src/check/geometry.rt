@@ -1,9 +1,10 @@
-// Checks 14 to 18 of one geometry.
+// Checks 14 to 18 and 27 of one geometry.
 ghost use mathlib.Core.Path.{_≡_};
 ghost use Rattle.halls.specs.Checks.{stridesAgree, vertexCountsAgree, indexCountsAgree};
 ghost use Rattle.halls.specs.Fronts.{GeometryFront, frontGeometry};
 ghost use Rattle.halls.specs.Inner.Judging.{HeadJudged, HeadTested, headOf, insideStride, lowestOf};
-use crate::check::scan::indices_below;
+use crate::check::order::PASSED;
+use crate::check::scan::triangles_lowest;
 use sections::u8_le;
 use sections::u16_le;
 use sections::u32_le;
@@ -26,20 +27,18 @@ pub struct GeometryHead {
     pub held: usize,
 }
 
-// The lowest check that the geometry at the front fails, or 20.
+// The rank of the first check that the geometry at the front fails, or PASSED.
 pub fn geometry_lowest(front: &[u8], content: usize, held: usize) -> u8
     requires { ⌜ GeometryFront (now front) content held ⌝ }
     ensures { λ r. ⌜ r ≡ lowestOf (frontGeometry (now (front .entry))) ⌝ }
 {
     let head = geometry_head(front, content, held);
     let lowest = head_lowest(head);
-    if lowest != 20 {
+    if lowest != PASSED {
         return lowest;
     }
-    if indices_below(front, 65 + content, held, head.vertices_count) {
-        return 20;
-    }
-    18
+    let triangles = head.triangle_count as usize;
+    triangles_lowest(front, 65 + content, triangles, head.vertices_count)
 }
 
 // `content` bytes of vertices and `held` indices are known to be whole.
@@ -62,7 +61,7 @@ pub fn geometry_head(front: &[u8], content: usize, held: usize) -> GeometryHead
     }
 }
 
-// The lowest of checks 14 to 17 that fails, or 20.
+// The first of checks 14 to 17 that fails, or PASSED.
 pub fn head_lowest(head: GeometryHead) -> u8
     ensures { λ r. ⌜ HeadJudged head r ⌝ }
 {
@@ -78,7 +77,7 @@ pub fn head_lowest(head: GeometryHead) -> u8
     if !index_counts_agree(head) {
         return 17;
     }
-    20
+    PASSED
 }
 
 fn strides_agree(head: GeometryHead) -> bool

@@ -1,17 +1,21 @@
-// One pass over a hall's list: a record that is not a hall's ends it, otherwise the lowest check that fails is carried.
+// One pass over a hall's list: a record that is not a hall's ends it, otherwise the lowest rank of a check that fails is carried.
 ghost use mathlib.Core.Path.{_≡_};
-ghost use Prim.Native.Nat.{_+_, _*_, _-_, _<_, _≤_, min};
+ghost use Prim.Native.Nat.{_+_, _*_, _-_, _<_, _≤_};
 ghost use lib.Dec.{eqb};
 ghost use lib.ListN.{length, drop};
 ghost use Rattle.vertices.specs.Runs.{numbers};
-ghost use Rattle.halls.specs.Inner.Walk.{frontOf, Walked, Turned, Examined, startTally, summaryOf, limitsLowest, failing, leads};
+ghost use Rattle.halls.specs.Inner.Order.{failing};
+ghost use Rattle.halls.specs.Inner.Walk.{frontOf, Walked, Turned, Examined, startTally, summaryOf, limitsLowest, leads};
 ghost use Rattle.halls.specs.declared.format.front.Front.the-variants.{Model, Geometry};
 use crate::check::geometry::geometry_lowest;
+use crate::check::order::PASSED;
+use crate::check::order::TOO_LARGE;
+use crate::check::order::lower;
 use crate::format::front::Front;
 use crate::format::front::front_of;
 use sections::u16_le;
 
-// What the records before `at` come to. `lowest` is the lowest check that failed, or 20. `units` is their part of the image, 16 bytes
+// What the records before `at` come to. `lowest` is the rank of the first check that failed, or PASSED. `units` is their part of the image, 16 bytes
 // each. `mapping` is where the entries of the last model's mapping stand that no geometry has answered yet, and `left` how many they are.
 pub struct Tally {
     pub at: usize,
@@ -94,7 +98,7 @@ fn answered(list: &[u8], mapping: usize, left: usize, shader: u16) -> u8
     if u16_le(list, mapping) != shader {
         return 12;
     }
-    20
+    PASSED
 }
 
 // Check 12 of a model whose geometries have all come.
@@ -102,7 +106,7 @@ fn unanswered(left: usize) -> u8
     ensures { λ r. ⌜ r ≡ failing 12 (eqb left 0) ⌝ }
 {
     if left == 0 {
-        return 20;
+        return PASSED;
     }
     12
 }
@@ -116,16 +120,7 @@ pub fn one_less(n: usize) -> usize
     n - 1
 }
 
-pub fn lower(a: u8, b: u8) -> u8
-    ensures { λ r. ⌜ r ≡ min a b ⌝ }
-{
-    if a < b {
-        return a;
-    }
-    b
-}
-
-// What a whole list comes to. `lowest` is the lowest check that fails, or 20; `units` leaves header and model pointers out.
+// What a whole list comes to. `lowest` is the rank of the first check that fails, or PASSED; `units` leaves header and model pointers out.
 pub struct Summary {
     pub lowest: u8,
     pub models: usize,
@@ -159,7 +154,7 @@ fn start() -> Tally
 {
     Tally {
         at: 0,
-        lowest: 20,
+        lowest: PASSED,
         models: 0,
         geometries: 0,
         units: 0,
@@ -190,7 +185,7 @@ pub fn limits_lowest(models: usize, geometries: usize, parts: usize) -> u8
         return 13;
     }
     if 4194303 - (models + 1) / 2 < parts {
-        return 19;
+        return TOO_LARGE;
     }
-    20
+    PASSED
 }

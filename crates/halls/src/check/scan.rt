@@ -1,108 +1,115 @@
-// Whether all indices of a list are below a limit. The loop over a block tests no range, is left only at its end and counts
-// instead of stopping: so the compiler compares several indices at once.
+// Checks 18 and 27 of a geometry's triangles: every index below a limit, and no two equal in a triangle. The loop over a block tests no
+// range, is left only at its end and counts instead of stopping: so the compiler looks at several triangles at once.
 ghost use mathlib.Core.Path.{_≡_};
-ghost use Prim.Native.Nat.{ℕ, _+_, _*_, _≤_, _<_};
-ghost use lib.Dec.{ltb};
+ghost use Prim.Native.Nat.{_+_, _*_, _≤_, _<_};
 ghost use lib.ListN.{length, drop};
 ghost use Rattle.sections.specs.Edit.{part};
 ghost use Rattle.sections.specs.Le.{le};
 ghost use Rattle.vertices.specs.Runs.{numbers};
-ghost use Rattle.halls.specs.Every.{every};
+ghost use Rattle.halls.specs.Inner.Counting.{triangleAt};
+ghost use Rattle.halls.specs.Inner.Judging.{indicesLowestOf};
+use crate::check::order::PASSED;
+use crate::check::order::lower;
+use crate::check::triangle::Triangle;
+use crate::check::triangle::block_length;
+use crate::check::triangle::counted_lowest;
+use crate::check::triangle::equal_pairs;
+use crate::check::triangle::indices_below;
 use crate::read::widen::u16_at;
 
-pub fn indices_below(list: &[u8], at: usize, count: usize, limit: u32) -> bool
-    requires { ⌜ at + 4 * count ≤ length (now list) ⌝ }
-    ensures { λ r. ⌜ r ≡ every (λ (i : ℕ). ltb i limit) (numbers 4 count (drop at (now (list .entry)))) ⌝ }
+// `count` triangles, whose indices begin at `at`. A block with an index out of range decides, since 18 is the lower.
+pub fn triangles_lowest(list: &[u8], at: usize, count: usize, limit: u32) -> u8
+    requires { ⌜ at + 12 * count ≤ length (now list) ⌝ }
+    ensures { λ r. ⌜ r ≡ indicesLowestOf limit (numbers 4 (3 * count) (drop at (now (list .entry)))) ⌝ }
 {
-    let mut i = 0;
-    while 64 <= count - i {
-        if !block_below(list, at + i * 4, limit) {
-            return false;
-        }
-        i += 64;
-    }
-    each_below(list, at + i * 4, count - i, limit)
-}
-
-// The same for 64 indices: all of them are counted.
-fn block_below(list: &[u8], at: usize, limit: u32) -> bool
-    requires { ⌜ at + 256 ≤ length (now list) ⌝ }
-    ensures { λ r. ⌜ r ≡ every (λ (i : ℕ). ltb i limit) (numbers 4 64 (drop at (now (list .entry)))) ⌝ }
-{
-    let mut below: u32 = 0;
-    let mut i: usize = 0;
-    while i < 64 {
-        if u32_at(list, at + i * 4) < limit {
-            below += 1;
-        }
-        i += 1;
-    }
-    below == 64
-}
-
-// The same one by one.
-fn each_below(list: &[u8], at: usize, count: usize, limit: u32) -> bool
-    requires { ⌜ at + 4 * count ≤ length (now list) ⌝ }
-    ensures { λ r. ⌜ r ≡ every (λ (i : ℕ). ltb i limit) (numbers 4 count (drop at (now (list .entry)))) ⌝ }
-{
+    let mut lowest = PASSED;
     let mut i = 0;
     while i < count {
-        if limit <= u32_at(list, at + i * 4) {
-            return false;
+        let size = block_length(count - i);
+        lowest = lower(lowest, block_lowest(list, at + i * 12, size, limit));
+        if lowest == 18 {
+            return 18;
         }
-        i += 1;
+        i += size;
     }
-    true
+    lowest
 }
 
-// Indices of two bytes: limit and count have two bytes as well, so that as many indices are compared at once as fit.
-
-pub fn short_indices_below(list: &[u8], at: usize, count: usize, limit: u16) -> bool
-    requires { ⌜ at + 2 * count ≤ length (now list) ⌝ }
-    ensures { λ r. ⌜ r ≡ every (λ (i : ℕ). ltb i limit) (numbers 2 count (drop at (now (list .entry)))) ⌝ }
+// The same for the triangles of a block: all of them are counted.
+fn block_lowest(list: &[u8], at: usize, count: usize, limit: u32) -> u8
+    requires { ⌜ (at + 12 * count ≤ length (now list)) × (count ≤ 64) ⌝ }
+    ensures { λ r. ⌜ r ≡ indicesLowestOf limit (numbers 4 (3 * count) (drop at (now (list .entry)))) ⌝ }
 {
-    let mut i = 0;
-    while 64 <= count - i {
-        if !short_block_below(list, at + i * 2, limit) {
-            return false;
-        }
-        i += 64;
-    }
-    each_short_below(list, at + i * 2, count - i, limit)
-}
-
-// The same for 64 indices: all of them are counted.
-fn short_block_below(list: &[u8], at: usize, limit: u16) -> bool
-    requires { ⌜ at + 128 ≤ length (now list) ⌝ }
-    ensures { λ r. ⌜ r ≡ every (λ (i : ℕ). ltb i limit) (numbers 2 64 (drop at (now (list .entry)))) ⌝ }
-{
-    let mut below: u16 = 0;
+    let mut inside: u32 = 0;
+    let mut pairs: u32 = 0;
     let mut i: usize = 0;
-    while i < 64 {
-        if u16_at(list, at + i * 2) < limit {
-            below += 1;
-        }
+    while i < count {
+        let t = triangle_at(list, at + i * 12);
+        inside += indices_below(t, limit);
+        pairs += equal_pairs(t);
         i += 1;
     }
-    below == 64
+    counted_lowest(inside, pairs, count)
 }
 
-// The same one by one.
-fn each_short_below(list: &[u8], at: usize, count: usize, limit: u16) -> bool
-    requires { ⌜ at + 2 * count ≤ length (now list) ⌝ }
-    ensures { λ r. ⌜ r ≡ every (λ (i : ℕ). ltb i limit) (numbers 2 count (drop at (now (list .entry)))) ⌝ }
+// The same for indices of two bytes. They are counted as four-byte numbers: of two bytes each, triangles are no faster to tell apart.
+
+pub fn short_triangles_lowest(list: &[u8], at: usize, count: usize, limit: u32) -> u8
+    requires { ⌜ at + 6 * count ≤ length (now list) ⌝ }
+    ensures { λ r. ⌜ r ≡ indicesLowestOf limit (numbers 2 (3 * count) (drop at (now (list .entry)))) ⌝ }
 {
+    let mut lowest = PASSED;
     let mut i = 0;
     while i < count {
-        if limit <= u16_at(list, at + i * 2) {
-            return false;
+        let size = block_length(count - i);
+        lowest = lower(lowest, short_block_lowest(list, at + i * 6, size, limit));
+        if lowest == 18 {
+            return 18;
         }
-        i += 1;
+        i += size;
     }
-    true
+    lowest
 }
 
-// A number that is known to fit.
+fn short_block_lowest(list: &[u8], at: usize, count: usize, limit: u32) -> u8
+    requires { ⌜ (at + 6 * count ≤ length (now list)) × (count ≤ 64) ⌝ }
+    ensures { λ r. ⌜ r ≡ indicesLowestOf limit (numbers 2 (3 * count) (drop at (now (list .entry)))) ⌝ }
+{
+    let mut inside: u32 = 0;
+    let mut pairs: u32 = 0;
+    let mut i: usize = 0;
+    while i < count {
+        let t = short_triangle_at(list, at + i * 6);
+        inside += indices_below(t, limit);
+        pairs += equal_pairs(t);
+        i += 1;
+    }
+    counted_lowest(inside, pairs, count)
+}
+
+// What is known to fit.
+
+fn triangle_at(list: &[u8], at: usize) -> Triangle
+    requires { ⌜ at + 12 ≤ length (now list) ⌝ }
+    ensures { λ r. ⌜ r ≡ triangleAt 4 (now (list .entry)) at ⌝ }
+{
+    Triangle {
+        a: u32_at(list, at),
+        b: u32_at(list, at + 4),
+        c: u32_at(list, at + 8),
+    }
+}
+
+fn short_triangle_at(list: &[u8], at: usize) -> Triangle
+    requires { ⌜ at + 6 ≤ length (now list) ⌝ }
+    ensures { λ r. ⌜ r ≡ triangleAt 2 (now (list .entry)) at ⌝ }
+{
+    Triangle {
+        a: u16_at(list, at) as u32,
+        b: u16_at(list, at + 2) as u32,
+        c: u16_at(list, at + 4) as u32,
+    }
+}
 
 fn wide(b: u8) -> u32
     ensures { λ r. ⌜ (r ≡ b) × (r < 256) ⌝ }

@@ -23,11 +23,13 @@ use crate::check::check::examine_first;
 use crate::check::find::FoundModel;
 use crate::check::find::model_at;
 use crate::check::geometry::components_inside;
+use crate::check::order::PASSED;
+use crate::check::order::lower;
+use crate::check::order::refused_by;
 use crate::check::pass::Summary;
 use crate::check::pass::limits_lowest;
-use crate::check::pass::lower;
 use crate::check::pass::one_less;
-use crate::check::words::words_below;
+use crate::check::words::lent_triangles_lowest;
 use crate::format::record::put_declaration;
 use crate::format::record::put_geometry;
 use crate::format::record::put_lent_indices;
@@ -55,8 +57,8 @@ pub fn add_geometry(
     ensures { λ r. ⌜ Stepped (addGeometry (record { shader = shader; declaration = declaration; stride = stride; count = count; content = now (content .entry); indices = now (indices .entry) })) (now (hall .entry)) n r (now (hall .exit)) ⌝ }
 {
     let found = examine_first(hall, n);
-    if found.lowest < 20 {
-        return refused(found.lowest, 0);
+    if found.lowest < PASSED {
+        return refused_by(found.lowest);
     }
     match model_at(&hall[..n], one_less(found.models) as u64) {
         FoundModel::Absent => refused(21, 0),
@@ -98,8 +100,8 @@ fn append_geometry(
         given_lowest(declaration, stride, count, content, indices),
         limits,
     );
-    if lowest < 20 {
-        return refused(lowest, 0);
+    if lowest < PASSED {
+        return refused_by(lowest);
     }
     let needed = n as u64 + 67 + content.len() as u64 + 4 * indices.len() as u64;
     if (hall.len() as u64) < needed {
@@ -120,7 +122,7 @@ fn append_geometry(
     Answer::Accepted(needed)
 }
 
-// The lowest of checks 11 and 14 to 18 that the given geometry fails, or 20.
+// The rank of the first of checks 11, 14 to 18 and 27 that the given geometry fails, or PASSED.
 fn given_lowest(
     declaration: VertexDeclaration,
     stride: u16,
@@ -151,10 +153,7 @@ fn given_lowest(
     if indices.len() % 3 != 0 {
         return 17;
     }
-    if !words_below(indices, count) {
-        return 18;
-    }
-    20
+    lent_triangles_lowest(indices, count)
 }
 
 // What the image grows by, in units of 16 bytes, where the last model has `entries` geometries.

@@ -12,6 +12,8 @@ ghost use Rattle.halls.specs.declared.check.check.Verdict.the-variants.{
 use crate::answer::Answer;
 use crate::answer::refused;
 use crate::check::check::examine_first;
+use crate::check::order::PASSED;
+use crate::check::order::refused_by;
 use crate::check::pass::Summary;
 use crate::check::pass::limits_lowest;
 use crate::format::record::put_model_numbers;
@@ -21,8 +23,8 @@ pub fn add_model(hall: &mut [u8], n: usize, binding: u32, mask: u16) -> Answer
     ensures { λ r. ⌜ Stepped (addModel binding mask) (now (hall .entry)) n r (now (hall .exit)) ⌝ }
 {
     let found = examine_first(hall, n);
-    if found.lowest < 20 {
-        return refused(found.lowest, 0);
+    if found.lowest < PASSED {
+        return refused_by(found.lowest);
     }
     append_model(hall, n, binding, mask, found)
 }
@@ -33,8 +35,8 @@ fn append_model(hall: &mut [u8], n: usize, binding: u32, mask: u16, found: Summa
     ensures { λ r. ⌜ Stepped (addModel binding mask) (now (hall .entry)) n r (now (hall .exit)) ⌝ }
 {
     let lowest = limits_lowest(found.models + 1, found.geometries, found.units + 3);
-    if lowest < 20 {
-        return refused(lowest, 0);
+    if lowest < PASSED {
+        return refused_by(lowest);
     }
     let needed = n as u64 + 12;
     if hall.len() - n < 12 {

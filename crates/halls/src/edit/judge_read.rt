@@ -1,23 +1,22 @@
-// Checks 11 and 14 to 18 of models and geometries as they are read, and what they come to as a hall's. It runs after the first pass of
+// Checks 11, 14 to 18 and 27 of models and geometries as they are read, and what they come to as a hall's. It runs after the first pass of
 // the hall list call has refused nothing.
 ghost use mathlib.Core.Path.{_≡_};
-ghost use Prim.Native.Nat.{ℕ, _+_, _/_, _^_, _<_, _≤_};
-ghost use lib.Dec.{ltb};
+ghost use Prim.Native.Nat.{_+_, _*_, _/_, _^_, _<_, _≤_};
 ghost use lib.ListN.{length};
 ghost use Rattle.sections.specs.Address.{sections, resolved};
 ghost use Rattle.vertices.specs.Runs.{numbers};
 ghost use Rattle.halls.specs.Blocks.{modelBlock};
-ghost use Rattle.halls.specs.Every.{every};
-ghost use Rattle.halls.specs.Inner.Judging.{HeadJudged, lowestOf};
+ghost use Rattle.halls.specs.Inner.Judging.{HeadJudged, indicesLowestOf, lowestOf};
 ghost use Rattle.halls.specs.Inner.Measure.{geometriesIn};
 ghost use Rattle.halls.specs.Inner.Taking.{geometryShown, asHalls, lowestIn, geometryTaken, nothingTaken, together, allTaken, recordTaken, modelTaken, contentSeen, heldSeen, fullShown, headSeen, Fitting};
-ghost use Rattle.halls.specs.Inner.View.{HeldIn, indicesIn, BufferHeld, IndicesHeld, geometryIn, geometriesAt, modelOf, modelIn, modelsAt};
+ghost use Rattle.halls.specs.Inner.View.{HeldIn, heldCount, indicesIn, BufferHeld, IndicesHeld, geometryIn, geometriesAt, modelOf, modelIn, modelsAt};
 ghost use Rattle.halls.specs.declared.read.view.FoundIndices.the-variants.{Indices};
 use crate::check::geometry::GeometryHead;
 use crate::check::geometry::head_lowest;
-use crate::check::pass::lower;
-use crate::check::scan::indices_below;
-use crate::check::scan::short_indices_below;
+use crate::check::order::PASSED;
+use crate::check::order::lower;
+use crate::check::scan::short_triangles_lowest;
+use crate::check::scan::triangles_lowest;
 use crate::read::pointers::list_bytes;
 use crate::read::view::FoundIndices;
 use crate::read::view::GeometryView;
@@ -31,7 +30,7 @@ use sections::u64_le;
 use vertices::FoundBuffer;
 use vertices::VertexBuffer;
 
-// `lowest` is the lowest check that fails, or 20; `units` are their parts of the image, 16 bytes each; `length` the bytes of their records.
+// `lowest` is the rank of the first check that fails, or PASSED; `units` are their parts of the image, 16 bytes each; `length` the bytes of their records.
 pub struct Taken {
     pub lowest: u8,
     pub models: usize,
@@ -150,7 +149,7 @@ fn held_seen(indices: FoundIndices) -> usize
     }
 }
 
-// The lowest check that a geometry fails, or 20: check 11 where vertices or indices are lacking.
+// The rank of the first check that a geometry fails, or PASSED: check 11 where vertices or indices are lacking.
 fn view_lowest<'a>(system: &'a [u8], graphics: &'a [u8], view: GeometryView) -> u8
     requires { ⌜ IndicesHeld (sections (now system) (now graphics)) (view .indices) ⌝ }
     ensures { λ r. ⌜ r ≡ lowestIn (asHalls (geometryShown (sections (now (system .entry)) (now (graphics .entry))) view)) ⌝ }
@@ -166,7 +165,7 @@ fn view_lowest<'a>(system: &'a [u8], graphics: &'a [u8], view: GeometryView) -> 
     }
 }
 
-// Checks 14 to 17, then 18: where they passed, the geometry's vertex count is the buffer's.
+// Checks 14 to 17, then 18 and 27: where they passed, the geometry's vertex count is the buffer's, and its indices make whole triangles.
 fn full_lowest<'a>(
     system: &'a [u8],
     graphics: &'a [u8],
@@ -178,19 +177,21 @@ fn full_lowest<'a>(
     ensures { λ r. ⌜ r ≡ lowestOf (fullShown (sections (now (system .entry)) (now (graphics .entry))) view buffer indices) ⌝ }
 {
     let lowest = numbers_lowest(view, buffer, indices);
-    if lowest != 20 {
+    if lowest != PASSED {
         return lowest;
     }
     let place = indices.place;
     let size = (indices.count as usize) * (indices.width as usize);
     let raw = bytes_of(system, graphics, place, size);
-    if items_below(indices, raw, view.vertex_count) {
-        return 20;
-    }
-    18
+    items_lowest(
+        indices,
+        raw,
+        view.triangle_count as usize,
+        view.vertex_count,
+    )
 }
 
-// The lowest of checks 14 to 17 that fails, or 20.
+// The first of checks 14 to 17 that fails, or PASSED.
 fn numbers_lowest(view: GeometryView, buffer: VertexBuffer, indices: IndexView) -> u8
     ensures { λ r. ⌜ HeadJudged (headSeen view buffer indices) r ⌝ }
 {
@@ -210,25 +211,25 @@ fn numbers_lowest(view: GeometryView, buffer: VertexBuffer, indices: IndexView) 
     })
 }
 
-// Check 18 of a view's indices, whose bytes are `raw`.
-fn items_below(view: IndexView, raw: &[u8], limit: u16) -> bool
-    requires { ⌜ HeldIn view (now raw) ⌝ }
-    ensures { λ r. ⌜ r ≡ every (λ (i : ℕ). ltb i limit) (indicesIn view (now (raw .entry)) .items) ⌝ }
+// Checks 18 and 27 of a view's indices, whose bytes are `raw` and which make so many triangles.
+fn items_lowest(view: IndexView, raw: &[u8], triangles: usize, limit: u16) -> u8
+    requires { ⌜ (HeldIn view (now raw)) × (heldCount view ≡ 3 * triangles) ⌝ }
+    ensures { λ r. ⌜ r ≡ indicesLowestOf limit (indicesIn view (now (raw .entry)) .items) ⌝ }
 {
     if view.width == 2 {
-        return short_indices_below(raw, 0, view.count as usize, limit);
+        return short_triangles_lowest(raw, 0, triangles, limit as u32);
     }
     if view.width == 4 {
-        return indices_below(raw, 0, view.count as usize, limit as u32);
+        return triangles_lowest(raw, 0, triangles, limit as u32);
     }
-    true
+    PASSED
 }
 
 fn nothing_taken() -> Taken
     ensures { λ r. ⌜ r ≡ nothingTaken ⌝ }
 {
     Taken {
-        lowest: 20,
+        lowest: PASSED,
         models: 0,
         geometries: 0,
         units: 0,
@@ -256,7 +257,7 @@ fn with_record(inner: Taken) -> Taken
 {
     let entries = inner.geometries;
     let model = Taken {
-        lowest: 20,
+        lowest: PASSED,
         models: 1,
         geometries: 0,
         units: 3 + (entries + 1) / 2 + (entries + 7) / 8,

@@ -20,6 +20,8 @@ use crate::check::find::GeometryPlace;
 use crate::check::find::geometry_at;
 use crate::check::find::model_at;
 use crate::check::find::model_end;
+use crate::check::order::PASSED;
+use crate::check::order::refused_by;
 use sections::copy_within;
 use sections::put_u32_le;
 use sections::u32_le;
@@ -30,8 +32,8 @@ pub fn remove_model(hall: &mut [u8], n: usize, model: u64) -> Answer
     ensures { λ r. ⌜ Stepped (removeModel model) (now (hall .entry)) n r (now (hall .exit)) ⌝ }
 {
     let found = examine_first(hall, n);
-    if found.lowest < 20 {
-        return refused(found.lowest, 0);
+    if found.lowest < PASSED {
+        return refused_by(found.lowest);
     }
     remove_model_in_hall(hall, n, model)
 }
@@ -56,8 +58,8 @@ pub fn remove_geometry(hall: &mut [u8], n: usize, model: u64, geometry: u64) -> 
     ensures { λ r. ⌜ Stepped (removeGeometry model geometry) (now (hall .entry)) n r (now (hall .exit)) ⌝ }
 {
     let found = examine_first(hall, n);
-    if found.lowest < 20 {
-        return refused(found.lowest, 0);
+    if found.lowest < PASSED {
+        return refused_by(found.lowest);
     }
     remove_geometry_in_hall(hall, n, model, geometry)
 }

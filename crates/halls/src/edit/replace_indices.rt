@@ -6,19 +6,23 @@ ghost use lib.ListN.{length, take, drop};
 ghost use Rattle.halls.specs.Calls.{replaceIndices};
 ghost use Rattle.halls.specs.Checks.{hallVerdict};
 ghost use Rattle.halls.specs.Inner.NewIndices.{indicesVerdict, withNewIndices};
+ghost use Rattle.halls.specs.Inner.Order.{verdictOf};
 ghost use Rattle.halls.specs.Parsing.{modelsIn};
 ghost use Rattle.halls.specs.Places.{GeometryIn};
 ghost use Rattle.halls.specs.Records.{records};
 ghost use Rattle.halls.specs.Step.{rewritten, Stepped};
-ghost use Rattle.halls.specs.Inner.Walk.{Counted, units, verdictOf};
+ghost use Rattle.halls.specs.Inner.Walk.{Counted, units};
 ghost use Rattle.halls.specs.declared.check.check.Verdict.the-variants.{Sound};
 use crate::answer::Answer;
 use crate::answer::refused;
 use crate::check::check::examine_first;
 use crate::check::find::FoundGeometry;
 use crate::check::find::geometry_at;
+use crate::check::order::PASSED;
+use crate::check::order::TOO_LARGE;
+use crate::check::order::refused_by;
 use crate::check::pass::Summary;
-use crate::check::words::words_below;
+use crate::check::words::lent_triangles_lowest;
 use crate::edit::remove::close_gap;
 use crate::format::record::put_lent_indices;
 use sections::copy_within;
@@ -37,8 +41,8 @@ pub fn replace_indices(
     ensures { λ r. ⌜ Stepped (replaceIndices model geometry (now (indices .entry))) (now (hall .entry)) n r (now (hall .exit)) ⌝ }
 {
     let found = examine_first(hall, n);
-    if found.lowest < 20 {
-        return refused(found.lowest, 0);
+    if found.lowest < PASSED {
+        return refused_by(found.lowest);
     }
     replace_in_hall(hall, n, model, geometry, indices, found)
 }
@@ -87,8 +91,8 @@ fn replace_in_geometry(
     let start = at + 55 + count as usize * stride as usize;
     let held = u32_le(hall, start + 6) as usize;
     let lowest = indices_lowest(indices, count as u32, held, found);
-    if lowest < 20 {
-        return refused(lowest, 0);
+    if lowest < PASSED {
+        return refused_by(lowest);
     }
     let needed = n - 4 * held + 4 * indices.len();
     if hall.len() < needed {
@@ -98,7 +102,7 @@ fn replace_in_geometry(
     Answer::Accepted(needed as u64)
 }
 
-// The lowest of checks 17 to 19 that new indices of a geometry of `limit` vertices fail in the place of `held`, or 20.
+// The rank of the first of checks 17, 18, 27 and 19 that new indices of a geometry of `limit` vertices fail in the place of `held`, or PASSED.
 fn indices_lowest(indices: &[u32], limit: u32, held: usize, found: Summary) -> u8
     requires { ⌜ (units (2 * held) ≤ found .units) × (found .models ≤ 256) × (found .units ≤ 4194304) ⌝ }
     ensures { λ r. ⌜ verdictOf r ≡ indicesVerdict (now (indices .entry)) limit (found .models) (found .units - units (2 * held) + units (2 * length (now (indices .entry)))) ⌝ }
@@ -109,14 +113,15 @@ fn indices_lowest(indices: &[u32], limit: u32, held: usize, found: Summary) -> u
     if indices.len() < 3 {
         return 17;
     }
-    if !words_below(indices, limit) {
-        return 18;
+    let lowest = lent_triangles_lowest(indices, limit);
+    if lowest != PASSED {
+        return lowest;
     }
     let parts = found.units - (held + 7) / 8 + (indices.len() + 7) / 8;
     if 4194303 - (found.models + 1) / 2 < parts {
-        return 19;
+        return TOO_LARGE;
     }
-    20
+    PASSED
 }
 
 // The list's new bytes, where the indices' record begins at `start` and the lent buffer is long enough.

@@ -14,6 +14,8 @@ use crate::answer::refused;
 use crate::check::check::examine_first;
 use crate::check::find::FoundGeometry;
 use crate::check::find::geometry_at;
+use crate::check::order::PASSED;
+use crate::check::order::refused_by;
 use sections::u16_le;
 use vertices::FoundComponent;
 use vertices::VertexAttributeValue;
@@ -35,8 +37,8 @@ pub fn set_attribute(
     ensures { λ r. ⌜ Stepped (setAttribute model geometry vertex semantic value) (now (hall .entry)) n r (now (hall .exit)) ⌝ }
 {
     let found = examine_first(hall, n);
-    if found.lowest < 20 {
-        return refused(found.lowest, 0);
+    if found.lowest < PASSED {
+        return refused_by(found.lowest);
     }
     set_in_hall(hall, n, model, geometry, vertex, semantic, value)
 }

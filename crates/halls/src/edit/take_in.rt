@@ -14,8 +14,10 @@ ghost use Rattle.halls.specs.declared.check.check.Verdict.the-variants.{
 use crate::answer::Answer;
 use crate::answer::refused;
 use crate::check::check::examine_first;
+use crate::check::order::PASSED;
+use crate::check::order::lower;
+use crate::check::order::refused_by;
 use crate::check::pass::limits_lowest;
-use crate::check::pass::lower;
 use crate::edit::judge_read::judge_models;
 use crate::edit::write_taken::write_taken_models;
 use crate::read::measure::measure_models;
@@ -38,8 +40,8 @@ pub fn take_in<'a>(
     ensures { λ r. ⌜ Stepped (takeIn (sections (now (system .entry)) (now (graphics .entry))) va) (now (hall .entry)) n r (now (hall .exit)) ⌝ }
 {
     let found = examine_first(hall, n);
-    if found.lowest < 20 {
-        return refused(found.lowest, 0);
+    if found.lowest < PASSED {
+        return refused_by(found.lowest);
     }
     take_in_over(hall, n, system, graphics, va)
 }
@@ -71,8 +73,8 @@ fn take_in_over<'a>(
     let taken = judge_models(system, graphics, pointers);
     let limits = limits_lowest(taken.models, taken.geometries, taken.units);
     let lowest = lower(taken.lowest, limits);
-    if lowest < 20 {
-        return refused(lowest, 0);
+    if lowest < PASSED {
+        return refused_by(lowest);
     }
     if (hall.len() as u64) < taken.length {
         return refused(24, taken.length);

@@ -30,7 +30,7 @@ add-geometry-spec =
     (λ c κs. search needs)
     (λ c κs. search needs)
     (λ c. search needs)
-    (λ c. answered (c .refused .ensures) (stays-old _ _ _ _ (lowest-fails _ _ _ (c .before .before .before .examine-first .ensures) (c .before .if1 .taken))))
+    (λ c. answered (c .refused-by .ensures) (stays-old _ _ _ _ (lowest-fails _ _ _ (c .before .before .before .examine-first .ensures) (c .before .if1 .taken))))
     (λ c. sound c .within)
     (λ c. simp length-take (omega (arith, sound (c .before) .within)))
     (λ c κs. search needs)
@@ -53,7 +53,7 @@ add-geometry-spec =
     let m = c .before .before .before in
     let counted = e .before .before .examine-first .ensures .counted (passed e) in
     let last = m .before .one-less .ensures ∙ ap (λ (i : ℕ). i - 1) (counted .models) in
-    answered (c .refused2 .ensures) (no-model _ _ (sound e) (given e) (model-none _ _
+    answered (c .refused .ensures) (no-model _ _ (sound e) (given e) (model-none _ _
     (ap (λ (i : ℕ). foundModel (modelPlace (hallIn (a .hall .now) (a .n)) i)) (sym last) ∙ sym (m .model-at .ensures) ∙ c .before .enum-told .given .1))))
     (λ c. search needs)
     (λ c. search needs))

@@ -5,6 +5,7 @@ use native.Mathlib.Omega.{arith}
 use borrow.Author.Needs.{needs}
 use lib.ListN.{length}
 use Rattle.halls.specs.Calls.{Given}
+use Rattle.halls.specs.Inner.Order.{passed}
 use Rattle.halls.specs.Inner.Walk.{limitsLowest}
 use Rattle.halls.proofs.edit.AddedGeometry.{Room, size-room, added-judged, added-long, added-done, parts-small}
 use Rattle.halls.proofs.edit.StepLaws.{Old, old, answered}
@@ -25,7 +26,7 @@ lowest : (c : tie.After-lower) → let a = c .before .before .before .before .be
     c .lower .result ≡ min (c .before .given-lowest .result) (limitsLowest (a .found .models) (a .found .geometries + 1) (a .found .units + c .before .before .before .before .before .added-units .result))
 lowest c = c .lower .ensures ∙ ap (min (c .before .given-lowest .result)) (c .before .before .limits-lowest .ensures)
 
-small : (c : tie.After-lower) → 20 ≤ c .lower .result → let a = c .before .before .before .before .before .before .before .before .before .before .before .args in
+small : (c : tie.After-lower) → passed ≤ c .lower .result → let a = c .before .before .before .before .before .before .before .before .before .before .before .args in
     (a .count ≤ 65535) × (length (a .content .now) ≤ 67108864) × (length (a .indices .now) ≤ 33554432) × (a .n ≤ length (a .hall .now))
 small c h =
     let s = c .before .before .before .before .before .before .before .before .before .before in
@@ -52,7 +53,7 @@ append-geometry-spec =
     let l = c .before .before in
     let s = l .before .before .before .before .before .before .before .before .before .before in
     let a = s .before in
-    answered (c .refused .ensures) (added-judged _ _ (sound s) (given s) _ (a .pre .1) _ (a .pre .2) _ (l .before .before .before .before .before .before .u32-le .ensures) _ _ _ (l .before .given-lowest .ensures) (l .before .before .before .before .before .added-units .ensures) (lowest l) (c .before .if1 .taken)))
+    answered (c .refused-by .ensures) (added-judged _ _ (sound s) (given s) _ (a .pre .1) _ (a .pre .2) _ (l .before .before .before .before .before .before .u32-le .ensures) _ _ _ (l .before .given-lowest .ensures) (l .before .before .before .before .before .added-units .ensures) (lowest l) (c .before .if1 .taken)))
     (λ c. omega (arith, small (c .before) (c .if1 .left)))
     (λ c. omega (arith, small (c .before) (c .if1 .left)))
     (λ c. omega (arith, small (c .before) (c .if1 .left)))
@@ -63,7 +64,7 @@ append-geometry-spec =
     let l = c .before .before .before in
     let s = l .before .before .before .before .before .before .before .before .before .before in
     let a = s .before in
-    answered (c .refused2 .ensures) (added-long _ _ (sound s) (given s) _ (a .pre .1) _ (a .pre .2) _ (l .before .before .before .before .before .before .u32-le .ensures) _ _ _ (l .before .given-lowest .ensures) (l .before .before .before .before .before .added-units .ensures) (lowest l) (c .before .before .if1 .left) (c .before .if2 .taken)))
+    answered (c .refused .ensures) (added-long _ _ (sound s) (given s) _ (a .pre .1) _ (a .pre .2) _ (l .before .before .before .before .before .before .u32-le .ensures) _ _ _ (l .before .given-lowest .ensures) (l .before .before .before .before .before .added-units .ensures) (lowest l) (c .before .before .if1 .left) (c .before .if2 .taken)))
     (λ c. omega (arith, room (c .before .before .before .before .before .before .before .before .before) .entry-low, small (c .before .before .before) (c .before .before .if1 .left)))
     (λ c. search needs)
     (λ c. omega (arith, room (c .before .before .before .before .before .before .before .before .before) .entry-low, small (c .before .before .before) (c .before .before .if1 .left)))

@@ -1,6 +1,6 @@
 -- The first check that fails is the lowest.
-use mathlib.Core.Path.{_≡_, refl, sym, _∙_}
-use mathlib.Core.Bool.{Bool, true, false, _&&_}
+use mathlib.Core.Path.{refl, sym, _∙_}
+use mathlib.Core.Bool.{true, false}
 use Prim.Native.Nat.{_≤_, _*_, _/_}
 use native.Mathlib.Nat.{mul-le-mul}
 use native.Mathlib.Omega.{arith}
@@ -8,13 +8,10 @@ use borrow.Author.Needs.{needs}
 use borrow.Author.Tests.{eq-eqb, ne-eqb, le-leb, lt-leb, not-true, not-false}
 use lib.Dec.{eqb}
 use lib.ListN.{length}
+use Rattle.halls.proofs.EveryLaws.{and-false}
 use Rattle.halls.proofs.edit.AddedGeometry.{given-is}
 use Rattle.halls.proofs.edit.add_geometry.given_lowest.Statement.{statement}
 use Rattle.halls.proofs.edit.add_geometry.given_lowest.Tie as tie
-
-and-false : (t : Bool) → (t && false) ≡ false
-and-false true = refl
-and-false false = refl
 
 mul-if1 : tie.Need-mul-if1
 mul-if1 c =
@@ -61,13 +58,8 @@ returns-7 c =
 
 returns-8 : tie.Need-returns-8
 returns-8 c =
-    let a = c .before .before .before .before .before .before .before .before .before .before .before .before .before .args in
-    sym (given-is (record { shader = 0; declaration = a .declaration; stride = a .stride; count = a .count; content = a .content .now; indices = a .indices .now }) {d = true} {e = true} (eq-eqb _ _ (c .before .before .before .before .before .before .before .before .before .before .if1 .left)) (eq-eqb _ _ (c .before .before .before .before .before .before .before .before .if2 .left)) (sym (c .before .before .before .before .before .before .before .components-inside .ensures) ∙ not-false _ (c .before .before .before .before .before .before .if3 .left)) (rw (le-leb 1 (a .count) (c .before .before .before .before .before .if4 .left), le-leb (a .count) 65535 (c .before .before .before .before .if5 .left))) (let l = length (a .indices .now) in rw (eq-eqb l (3 * (l / 3)) (omega (arith, c .before .before .if7 .left)), le-leb 3 l (c .before .before .before .if6 .left))) (sym (c .before .words-below .ensures) ∙ not-true _ (c .if8 .taken)))
-
-returns-9 : tie.Need-returns-9
-returns-9 c =
-    let a = c .before .before .before .before .before .before .before .before .before .before .before .before .before .args in
-    sym (given-is (record { shader = 0; declaration = a .declaration; stride = a .stride; count = a .count; content = a .content .now; indices = a .indices .now }) {d = true} {e = true} (eq-eqb _ _ (c .before .before .before .before .before .before .before .before .before .before .if1 .left)) (eq-eqb _ _ (c .before .before .before .before .before .before .before .before .if2 .left)) (sym (c .before .before .before .before .before .before .before .components-inside .ensures) ∙ not-false _ (c .before .before .before .before .before .before .if3 .left)) (rw (le-leb 1 (a .count) (c .before .before .before .before .before .if4 .left), le-leb (a .count) 65535 (c .before .before .before .before .if5 .left))) (let l = length (a .indices .now) in rw (eq-eqb l (3 * (l / 3)) (omega (arith, c .before .before .if7 .left)), le-leb 3 l (c .before .before .before .if6 .left))) (sym (c .before .words-below .ensures) ∙ not-false _ (c .if8 .left)))
+    let a = c .before .before .before .before .before .before .before .before .before .before .before .before .args in
+    sym (given-is (record { shader = 0; declaration = a .declaration; stride = a .stride; count = a .count; content = a .content .now; indices = a .indices .now }) {d = true} {e = true} (eq-eqb _ _ (c .before .before .before .before .before .before .before .before .before .if1 .left)) (eq-eqb _ _ (c .before .before .before .before .before .before .before .if2 .left)) (sym (c .before .before .before .before .before .before .components-inside .ensures) ∙ not-false _ (c .before .before .before .before .before .if3 .left)) (rw (le-leb 1 (a .count) (c .before .before .before .before .if4 .left), le-leb (a .count) 65535 (c .before .before .before .if5 .left))) (let l = length (a .indices .now) in rw (eq-eqb l (3 * (l / 3)) (omega (arith, c .before .if7 .left)), le-leb 3 l (c .before .before .if6 .left))) (sym (c .lent-triangles-lowest .ensures)))
 
 pub given-lowest-spec : {M : Type 1} → statement M
 given-lowest-spec =
@@ -83,5 +75,4 @@ given-lowest-spec =
     returns-6
     returns-7
     (λ c κs. search needs)
-    returns-8
-    returns-9)
+    returns-8)

@@ -12,7 +12,7 @@ add-model-spec =
     (λ c κs. search needs)
     (λ c κs. search needs)
     (λ c. search needs)
-    (λ c. answered (c .refused .ensures) (stays-old _ _ _ _ (lowest-fails _ _ _ (c .before .before .before .examine-first .ensures) (c .before .if1 .taken))))
+    (λ c. answered (c .refused-by .ensures) (stays-old _ _ _ _ (lowest-fails _ _ _ (c .before .before .before .examine-first .ensures) (c .before .if1 .taken))))
     (λ c κs.
     let found = c .before .before .before .examine-first .ensures in
     let sound = lowest-sound _ _ _ found (c .before .if1 .left) in

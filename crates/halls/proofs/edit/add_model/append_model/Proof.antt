@@ -16,13 +16,13 @@ append-model-spec =
     (λ c κs. search needs)
     (λ c.
     let start = c .before .before .before .before .before .before in let hall = old _ _ (λ i. c .before .before .before .before .before .slice-known .given i .fits) (start .pre .0) in
-    answered (c .refused .ensures) (added-judged _ _ _ _ hall _ (start .pre .1) _ (c .before .before .limits-lowest .ensures) (c .before .if1 .taken)))
+    answered (c .refused-by .ensures) (added-judged _ _ _ _ hall _ (start .pre .1) _ (c .before .before .limits-lowest .ensures) (c .before .if1 .taken)))
     (λ c. search needs)
     (λ c. search needs)
     (λ c κs. search needs)
     (λ c.
     let start = c .before .before .before .before .before .before .before in let hall = old _ _ (λ i. c .before .before .before .before .before .before .slice-known .given i .fits) (start .pre .0) in
-    answered (c .refused2 .ensures) (added-long _ _ _ _ hall _ (start .pre .1) _ (c .before .before .before .limits-lowest .ensures) (c .before .before .if1 .left) (omega (arith, start .pre .2))))
+    answered (c .refused .ensures) (added-long _ _ _ _ hall _ (start .pre .1) _ (c .before .before .before .limits-lowest .ensures) (c .before .before .if1 .left) (omega (arith, start .pre .2))))
     (λ c κs. search needs)
     (λ c. search needs)
     (λ c.

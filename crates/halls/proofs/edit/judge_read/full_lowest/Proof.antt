@@ -1,27 +1,29 @@
--- The lowest of the numbers, and where they have none check 18, which is the scan's.
+-- The lowest of the numbers, and where they have none checks 18 and 27, which are the scan's.
 use mathlib.Core.Path.{sym, subst}
 use borrow.Author.Needs.{needs}
 use Rattle.sections.specs.Address.{sections}
 use Rattle.halls.specs.Inner.View.{HeldIn}
-use Rattle.halls.proofs.edit.ShownLaws.{full-head, full-scanned}
+use Rattle.halls.proofs.edit.ShownLaws.{full-head, full-triangles, full-scanned}
 use Rattle.halls.proofs.edit.judge_read.full_lowest.Statement.{statement}
 use Rattle.halls.proofs.edit.judge_read.full_lowest.Tie as tie
 
-passes : tie.Need-returns-2
-passes c =
-    let read = c .before .before in
+items-requires : tie.Need-items-lowest-requires
+items-requires c κs =
+    let read = c .before in
     let judged = read .before .before .before in
     let start = judged .before .before .before .before in
-    let s = sections (start .args .system .now) (start .args .graphics .now) in
-    rw (c .if2 .taken) at (full-scanned s (start .args .view) (start .args .buffer) (start .args .indices) (judged .before .numbers-lowest .ensures) (judged .if1 .left) (rw (read .bytes-of .ensures) at (c .before .items-below .ensures)))
+    let s = sections (start .args .system .now) (start .args .graphics .now) in (
+      subst (HeldIn (start .args .indices)) (sym (read .bytes-of .ensures)) (start .pre),
+      full-triangles s (start .args .view) (start .args .buffer) (start .args .indices) (judged .before .numbers-lowest .ensures) (judged .if1 .left),
+    )
 
-fails : tie.Need-returns-3
-fails c =
+scanned : tie.Need-returns-2
+scanned c =
     let read = c .before .before in
     let judged = read .before .before .before in
     let start = judged .before .before .before .before in
     let s = sections (start .args .system .now) (start .args .graphics .now) in
-    rw (c .if2 .left) at (full-scanned s (start .args .view) (start .args .buffer) (start .args .indices) (judged .before .numbers-lowest .ensures) (judged .if1 .left) (rw (read .bytes-of .ensures) at (c .before .items-below .ensures)))
+    full-scanned s (start .args .view) (start .args .buffer) (start .args .indices) (judged .before .numbers-lowest .ensures) (judged .if1 .left) (rw (read .bytes-of .ensures) at (c .items-lowest .ensures))
 
 pub full-lowest-spec : {M : Type 1} → statement M
 full-lowest-spec =
@@ -33,8 +35,6 @@ full-lowest-spec =
     (λ c. search needs)
     (λ c. search needs)
     (λ c κs. search needs)
-    (λ c κs.
-    let start = c .before .before .before .before .before .before .before in
-    subst (HeldIn (start .args .indices)) (sym (c .bytes-of .ensures)) (start .pre))
-    passes
-    fails)
+    (λ c. search needs)
+    items-requires
+    scanned)

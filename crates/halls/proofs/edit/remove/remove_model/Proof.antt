@@ -13,7 +13,7 @@ returns c =
     let x = c .before .before .before in
     let a = x .before .before .before .args in
     let fails = lowest-fails _ _ _ (x .examine-first .ensures) (c .before .if1 .taken) in
-    subst (λ (r : Answer). Stepped (removeModel (a .model)) (a .hall .now) (a .n) r (a .hall .now)) (sym (c .refused .ensures)) (stays-old _ _ _ _ fails)
+    subst (λ (r : Answer). Stepped (removeModel (a .model)) (a .hall .now) (a .n) r (a .hall .now)) (sym (c .refused-by .ensures)) (stays-old _ _ _ _ fails)
 
 pub remove-model-spec : {M : Type 1} → statement M
 remove-model-spec =

@@ -52,7 +52,7 @@ replace-in-geometry-spec =
     let q = l .before in
     let u = q .before .before in
     let z = u .before .before .before .before .before in
-    answered (c .refused .ensures)
+    answered (c .refused-by .ensures)
     (replaced-fails (here z) _ (u .before .before .u16-le .ensures) (u .u16-le2 .ensures) (q .u32-le .ensures) _ (z .before .pre .2) (l .indices-lowest .result) (l .indices-lowest .ensures) (c .before .if1 .taken)))
     (λ c. search needs)
     (λ c. omega (arith, room-held (c .before .before)))
@@ -71,7 +71,7 @@ replace-in-geometry-spec =
     let q = l .before in
     let u = q .before .before in
     let z = u .before .before .before .before .before in
-    answered (c .refused2 .ensures)
+    answered (c .refused .ensures)
     (replaced-long (here z) _ (u .before .before .u16-le .ensures) (u .u16-le2 .ensures) (q .u32-le .ensures) _ (z .before .pre .2) (l .indices-lowest .result) (l .indices-lowest .ensures) (i .if1 .left) (c .before .if2 .taken)))
     (λ c κs.
     let i = c .before .before in

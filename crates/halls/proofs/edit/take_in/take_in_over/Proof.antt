@@ -75,7 +75,7 @@ failing c =
     let there = sym (c .before .before .before .before .before .before .before .before .before .before .unresolved-list .ensures) ∙ c .before .before .before .before .before .before .before .before .before .if2 .left in
     let is = taken-is s (a .va) (stateIn (a .hall .now) (a .n)) within _ (c .before .before .before .before .before .before .before .before .before .before .before .before .header-at .ensures) _ (c .before .before .before .before .before .before .before .before .before .before .before .len .ensures) there _ (c .before .before .before .before .before .before .before .before .list-bytes .ensures) _ (c .before .before .before .before .before .before .before .measure-models .ensures) (c .before .before .before .before .before .if3 .left) in
     let low = c .before .before .lower .ensures ∙ ap (min (c .before .before .before .before .judge-models .result .lowest)) (c .before .before .before .limits-lowest .ensures) in
-    answered (c .refused4 .ensures) (taken-fails s (a .va) (a .hall .now) (a .n) o (wholeNumbers 8 (c .before .before .before .before .before .before .before .before .list-bytes .result .now)) is (c .before .before .before .before .judge-models .result) (c .before .before .before .before .judge-models .ensures) _ low (c .before .if4 .taken))
+    answered (c .refused-by .ensures) (taken-fails s (a .va) (a .hall .now) (a .n) o (wholeNumbers 8 (c .before .before .before .before .before .before .before .before .list-bytes .result .now)) is (c .before .before .before .before .judge-models .result) (c .before .before .before .before .judge-models .ensures) _ low (c .before .if4 .taken))
 
 short-buffer : tie.Need-returns-5
 short-buffer c =
@@ -88,7 +88,7 @@ short-buffer c =
     let is = taken-is s (a .va) (stateIn (a .hall .now) (a .n)) within _ (c .before .before .before .before .before .before .before .before .before .before .before .before .before .before .header-at .ensures) _ (c .before .before .before .before .before .before .before .before .before .before .before .before .before .len .ensures) there _ (c .before .before .before .before .before .before .before .before .before .before .list-bytes .ensures) _ (c .before .before .before .before .before .before .before .before .before .measure-models .ensures) (c .before .before .before .before .before .before .before .if3 .left) in
     let judged = c .before .before .before .before .before .before .judge-models in
     let low = c .before .before .before .before .lower .ensures ∙ ap (min (judged .result .lowest)) (c .before .before .before .before .before .limits-lowest .ensures) in
-    answered (c .refused5 .ensures) (taken-short s (a .va) (a .hall .now) (a .n) o (wholeNumbers 8 (c .before .before .before .before .before .before .before .before .before .before .list-bytes .result .now)) is (judged .result) (judged .ensures) _ low (c .before .before .before .if4 .left) (c .before .if5 .taken))
+    answered (c .refused4 .ensures) (taken-short s (a .va) (a .hall .now) (a .n) o (wholeNumbers 8 (c .before .before .before .before .before .before .before .before .before .before .list-bytes .result .now)) is (judged .result) (judged .ensures) _ low (c .before .before .before .if4 .left) (c .before .if5 .taken))
 
 put-requires : tie.Need-put-hall-requires
 put-requires c κs =
