@@ -25,7 +25,7 @@
       8  there is no vertex with this index
       9  a component of nonzero size does not end inside the vertex data
      10  an output of the vertex functions is too short
-   or one of 11 to 24, which stand beside the functions that return them.
+   or one of 11 to 24 and 27, which stand beside the functions that return them.
    It accepts: the result stands in the first bytes of the output, the bytes behind it are as they were, and *size is the length of the
    result. It refuses: no byte of the output is changed, and *size is the length that the output needs for checks 7, 10 and 20, else 0.
    *size is written in either case, and not read. */
@@ -46,30 +46,31 @@ extern "C" {
 
 /* What a function that refuses returns; 0 is an acceptance. Later versions may have more. */
 enum calicofern_check {
-    CALICOFERN_CHECK_SECTION_LENGTH = 1,    /* a section has more than 67,108,864 bytes */
-    CALICOFERN_CHECK_MODEL_POINTERS = 2,    /* the model pointers of a LOD do not resolve */
-    CALICOFERN_CHECK_MODEL_BLOCK = 3,       /* a model's block does not */
-    CALICOFERN_CHECK_GEOMETRY_POINTERS = 4, /* the geometry pointers of a model do not */
-    CALICOFERN_CHECK_GEOMETRY_LIMIT = 5,    /* a geometry has 16,384 before it */
-    CALICOFERN_CHECK_GEOMETRY_BLOCK = 6,    /* a geometry's block does not resolve */
-    CALICOFERN_CHECK_LIST_BUFFER = 7,       /* the list buffer is too short */
-    CALICOFERN_CHECK_VERTEX_INDEX = 8,      /* there is no vertex with this index */
-    CALICOFERN_CHECK_VERTEX_DATA = 9,       /* a component does not end inside the vertex data */
-    CALICOFERN_CHECK_OUTPUT = 10,           /* an output of the vertex functions is too short */
-    CALICOFERN_CHECK_RECORDS = 11,          /* the records are not whole, ordered and exact in length */
-    CALICOFERN_CHECK_MAPPING = 12,          /* a mapping is not the shader ids */
-    CALICOFERN_CHECK_LIMITS = 13,           /* more than 256 models or 16,384 geometries */
-    CALICOFERN_CHECK_STRIDES = 14,          /* strides differ, or the layout is not 0 */
-    CALICOFERN_CHECK_DECLARATION = 15,      /* no position, or components beyond the stride */
-    CALICOFERN_CHECK_VERTEX_COUNT = 16,     /* vertex counts differ, or are not 1 to 65,535 */
-    CALICOFERN_CHECK_INDEX_COUNTS = 17,     /* index counts differ, or are not 3 for each triangle */
-    CALICOFERN_CHECK_INDEX_RANGE = 18,      /* an index is not below the count of vertices */
-    CALICOFERN_CHECK_IMAGE_LENGTH = 19,     /* the image has more than 67,108,864 bytes */
-    CALICOFERN_CHECK_IMAGE_BUFFER = 20,     /* the image buffer is too short */
-    CALICOFERN_CHECK_TARGET = 21,           /* there is no such model, geometry or vertex */
-    CALICOFERN_CHECK_SEMANTIC = 22,         /* the semantic is not declared, or has no bytes */
-    CALICOFERN_CHECK_SHAPE = 23,            /* the value has not the type's shape */
-    CALICOFERN_CHECK_HALL_BUFFER = 24       /* the hall buffer is too short */
+    CALICOFERN_CHECK_SECTION_LENGTH = 1,      /* a section has more than 67,108,864 bytes */
+    CALICOFERN_CHECK_MODEL_POINTERS = 2,      /* the model pointers of a LOD do not resolve */
+    CALICOFERN_CHECK_MODEL_BLOCK = 3,         /* a model's block does not */
+    CALICOFERN_CHECK_GEOMETRY_POINTERS = 4,   /* the geometry pointers of a model do not */
+    CALICOFERN_CHECK_GEOMETRY_LIMIT = 5,      /* a geometry has 16,384 before it */
+    CALICOFERN_CHECK_GEOMETRY_BLOCK = 6,      /* a geometry's block does not resolve */
+    CALICOFERN_CHECK_LIST_BUFFER = 7,         /* the list buffer is too short */
+    CALICOFERN_CHECK_VERTEX_INDEX = 8,        /* there is no vertex with this index */
+    CALICOFERN_CHECK_VERTEX_DATA = 9,         /* a component does not end inside the vertex data */
+    CALICOFERN_CHECK_OUTPUT = 10,             /* an output of the vertex functions is too short */
+    CALICOFERN_CHECK_RECORDS = 11,            /* the records are not whole, ordered and exact in length */
+    CALICOFERN_CHECK_MAPPING = 12,            /* a mapping is not the shader ids */
+    CALICOFERN_CHECK_LIMITS = 13,             /* more than 256 models or 16,384 geometries */
+    CALICOFERN_CHECK_STRIDES = 14,            /* strides differ, or the layout is not 0 */
+    CALICOFERN_CHECK_DECLARATION = 15,        /* no position, or components beyond the stride */
+    CALICOFERN_CHECK_VERTEX_COUNT = 16,       /* vertex counts differ, or are not 1 to 65,535 */
+    CALICOFERN_CHECK_INDEX_COUNTS = 17,       /* index counts differ, or are not 3 for each triangle */
+    CALICOFERN_CHECK_INDEX_RANGE = 18,        /* an index is not below the count of vertices */
+    CALICOFERN_CHECK_IMAGE_LENGTH = 19,       /* the image has more than 67,108,864 bytes */
+    CALICOFERN_CHECK_IMAGE_BUFFER = 20,       /* the image buffer is too short */
+    CALICOFERN_CHECK_TARGET = 21,             /* there is no such model, geometry or vertex */
+    CALICOFERN_CHECK_SEMANTIC = 22,           /* the semantic is not declared, or has no bytes */
+    CALICOFERN_CHECK_SHAPE = 23,              /* the value has not the type's shape */
+    CALICOFERN_CHECK_HALL_BUFFER = 24,        /* the hall buffer is too short */
+    CALICOFERN_CHECK_DEGENERATE_TRIANGLE = 27 /* a triangle has two equal indices; asked after 18 and before 19 */
 };
 
 /* What a component of a vertex means: the number of its flag in a declaration, and of its nibble in the types. */
@@ -125,7 +126,7 @@ enum calicofern_shape {
 uint8_t calicofern_hall_list(const uint8_t *system, size_t system_length, const uint8_t *graphics, size_t graphics_length, uint64_t va,
                              uint8_t *list, size_t list_length, uint64_t *size);
 
-/* Whether the first n bytes of `list` are a hall. Returns 0 where they are, else the lowest of these numbers that fails anywhere in them:
+/* Whether the first n bytes of `list` are a hall. Returns 0 where they are, else the first of these checks, in this order, that fails anywhere in them:
      11  n is within the list's length; records are whole, each model's is followed by those of its geometries as kinds 2, 3, 4, 5, and each is exact in
          length by its own numbers, kind 4 with count x stride vertex bytes
      12  a model's mapping is its geometries' shader ids
@@ -135,63 +136,64 @@ uint8_t calicofern_hall_list(const uint8_t *system, size_t system_length, const 
      16  a geometry's vertices are its buffer's count, 1 to 65,535
      17  both index counts are the indices held and 3 x triangles, at least 3
      18  each index is below the count of vertices
+     27  no triangle is degenerate: of the three indices of each no two are equal. Different indices may name vertices at one position
      19  the hall's image has at most 67,108,864 bytes */
 uint8_t calicofern_hall_check(const uint8_t *list, size_t list_length, size_t n);
 
 /* ---- Editing a hall
 
-   A hall is the first n bytes of the buffer `hall`, of `hall_length` bytes: a list that passes checks 11 to 19. n = 0 is the hall without models, whatever the
-   buffer holds. Models, the geometries of a model, and vertices are counted from 0.
+   A hall is the first n bytes of the buffer `hall`, of `hall_length` bytes: a list that passes checks 11 to 18, 27 and 19. n = 0 is the hall without models,
+   whatever the buffer holds. Models, the geometries of a model, and vertices are counted from 0.
 
    Each function checks the hall, then its own arguments, then what the hall would become, and only then writes. It accepts: it returns 0, *size is the new
    n, the first *size bytes are the new hall, bytes from there to a longer old n are zero, and those beyond both are as they were. It refuses: it
    returns a number, no byte of the buffer is changed, and *size is the new n that the buffer is too short for with 24, else 0. *size is written in either
    case, and not read. The numbers, in the order in which they are looked for:
-     11 to 19  n bytes of the buffer are no hall: as calicofern_hall_check says
-     21        there is no such model, geometry or vertex; in adding a geometry, there is no model
-     22        the geometry's declaration has no component of this semantic, or one without bytes
-     23        the value has not the shape of the component's type
-     11 to 19  what the hall would become is no hall: the lowest check that fails
-     24        the buffer is shorter than the new hall */
+     11 to 18, 27, 19  n bytes of the buffer are no hall: as calicofern_hall_check says
+     21                there is no such model, geometry or vertex; in adding a geometry, there is no model
+     22                the geometry's declaration has no component of this semantic, or one without bytes
+     23                the value has not the shape of the component's type
+     11 to 18, 27, 19  what the hall would become is no hall: the first check in this order that fails
+     24                the buffer is shorter than the new hall */
 
-/* Adds a model without geometries at the end. Returns 0, 11 to 19 or 24. */
+/* Adds a model without geometries at the end. Returns 0, 11 to 18, 27, 19 or 24. */
 uint8_t calicofern_add_model(uint8_t *hall, size_t hall_length, size_t n, uint32_t binding, uint16_t mask, uint64_t *size);
 
 /* Adds a geometry at the end of the last model: its shader id, its declaration of five numbers, the stride and count of its vertices, their bytes, its
-   indices. Its index count is `indices_length`, its triangle count a third of that. 11: `content_length` is not count x stride. 14 to 18: the
-   geometry given is at fault. Returns 0, 11 to 19, 21 or 24. */
+   indices. Its index count is `indices_length`, its triangle count a third of that. 11: `content_length` is not count x stride. 14 to 18
+   and 27: the geometry given is at fault. One or two vertices make no triangle: 18 or 27. Returns 0, 11 to 18, 27, 19, 21 or 24. */
 uint8_t calicofern_add_geometry(uint8_t *hall, size_t hall_length, size_t n, uint16_t shader, uint32_t flags, uint16_t declared_stride,
                                 uint8_t unknown_6h, uint8_t declared_count, uint64_t types, uint16_t stride, uint32_t count,
                                 const uint8_t *content, size_t content_length, const uint32_t *indices, size_t indices_length,
                                 uint64_t *size);
 
-/* Removes a geometry; later ones of its model get the number before. Returns 0, 11 to 19 or 21. */
+/* Removes a geometry; later ones of its model get the number before. Returns 0, 11 to 18, 27, 19 or 21. */
 uint8_t calicofern_remove_geometry(uint8_t *hall, size_t hall_length, size_t n, uint64_t model, uint64_t geometry, uint64_t *size);
 
-/* Removes a model with its geometries; later ones get the number before. Returns 0, 11 to 19 or 21. */
+/* Removes a model with its geometries; later ones get the number before. Returns 0, 11 to 18, 27, 19 or 21. */
 uint8_t calicofern_remove_model(uint8_t *hall, size_t hall_length, size_t n, uint64_t model, uint64_t *size);
 
 /* Sets the component of a semantic in one vertex; no other byte changes. The value is x, y, z and w, as many as its shape says: 1 to 4, so many floats, each
    as its bits; 5, four bytes, each a number up to 255. Any other shape, and a byte above 255, is a value of no type. Float wants one float, Half2 and
    Float2 two, Float3 three, Half4, Float4 and Rgba8Snorm four, UByte4 and Colour bytes; halves and Rgba8Snorm are stored as the numbers below say.
-   Returns 0, 11 to 19, 21, 22 or 23. */
+   Returns 0, 11 to 18, 27, 19, 21, 22 or 23. */
 uint8_t calicofern_set_attribute(uint8_t *hall, size_t hall_length, size_t n, uint64_t model, uint64_t geometry, uint64_t vertex,
                                  uint64_t semantic, uint8_t shape, uint32_t x, uint32_t y, uint32_t z, uint32_t w, uint64_t *size);
 
-/* Replaces all indices of a geometry, its two index counts and its triangle count. Returns 0, 11 to 19, 21 or 24. */
+/* Replaces all indices of a geometry, its two index counts and its triangle count. Returns 0, 11 to 18, 27, 19, 21 or 24. */
 uint8_t calicofern_replace_indices(uint8_t *hall, size_t hall_length, size_t n, uint64_t model, uint64_t geometry, const uint32_t *indices,
                                    size_t indices_length, uint64_t *size);
 
 /* The hall becomes what two sections hold behind the LOD header at address `va`, with layout 0, a declaration of three floats of position where none is
    stored, and mappings made of the shader ids. The old hall must be sound too. 1 to 6 are looked for before the result is judged; 11 there: a
-   geometry lacks its vertices or its indices. Returns 0, 1 to 6, 11 to 19 or 24. */
+   geometry lacks its vertices or its indices. Returns 0, 1 to 6, 11 to 18, 27, 19 or 24. */
 uint8_t calicofern_take_in(uint8_t *hall, size_t hall_length, size_t n, const uint8_t *system, size_t system_length, const uint8_t *graphics,
                            size_t graphics_length, uint64_t va, uint64_t *size);
 
 /* The image of the hall in the first n bytes of `hall`: a drawable's system section, with its LOD header at 0x50000000 and the graphics section empty,
    at most 67,108,864 bytes. Read there, it holds the same models and geometries. The image stands in the first *size bytes of `out`, and the
    bytes behind it are as they were; where it refuses, no byte of `out` is changed. 20: `out` is shorter than the image, and *size is the image's length.
-   Returns 0, 11 to 20. */
+   Returns 0, 11 to 18, 27, 19 or 20. */
 uint8_t calicofern_save(const uint8_t *hall, size_t hall_length, size_t n, uint8_t *out, size_t out_length, uint64_t *size);
 
 /* ---- Models and lists */

@@ -7,6 +7,9 @@ macro_rules! checks {
     ($($number:literal $name:ident $text:literal,)*) => {
         /// What a refused call was asked: a check by its number, as docs/FORMAT.md of the repository lists them.
         ///
+        /// Checks compare by their numbers, and those that this version does not know come last. They are asked in the order of their numbers, but for
+        /// 27, which comes after 18 and before 19.
+        ///
         /// ```
         /// use calicofern::Check;
         /// assert_eq!(Check::from_number(18), Check::IndexRange);
@@ -78,9 +81,29 @@ checks! {
     22 Semantic "the vertices have no such attribute: the geometry's declaration must have this semantic, with a type that has bytes",
     23 Shape "the value has not the shape of the attribute's type: Float wants one float, Half2 and Float2 two, Float3 three, Half4, Float4 and RGBA8SNorm four, UByte4 and Colour four bytes",
     24 HallBuffer "the buffer for the hall is too short",
+    27 DegenerateTriangle "a triangle is degenerate: its three indices must be different",
 }
 
 impl Check {
+    /// What is asked of a hall as a whole, in the order in which it is asked.
+    const OF_HALLS: [Check; 10] = [
+        Self::Records,
+        Self::Mapping,
+        Self::Limits,
+        Self::Strides,
+        Self::Declaration,
+        Self::VertexCount,
+        Self::IndexCounts,
+        Self::IndexRange,
+        Self::DegenerateTriangle,
+        Self::ImageLength,
+    ];
+
+    /// Whether a list that is no hall can be refused by it.
+    pub(crate) fn is_of_halls(self) -> bool {
+        Self::OF_HALLS.contains(&self)
+    }
+
     /// Whether its refusal says how many bytes were needed.
     pub(crate) fn needs_bytes(self) -> bool {
         matches!(self, Self::ListBuffer | Self::Output | Self::ImageBuffer | Self::HallBuffer)
@@ -101,9 +124,16 @@ mod tests {
     #[test]
     fn numbers_go_both_ways() {
         assert!((0..=255).all(|number| Check::from_number(number).number() == number));
-        assert_eq!(Check::ALL.len(), 24);
-        assert_eq!(Check::ALL.iter().map(|check| check.number()).collect::<Vec<_>>(), (1..=24).collect::<Vec<_>>());
-        assert_eq!(Check::from_number(0), Check::Unknown(0));
+        assert_eq!(Check::ALL.iter().map(|check| check.number()).collect::<Vec<_>>(), (1..=24).chain([27]).collect::<Vec<_>>());
+        assert!([0, 25, 26, 28].iter().all(|number| Check::from_number(*number) == Check::Unknown(*number)));
+    }
+
+    #[test]
+    fn halls_are_asked_ten_checks() {
+        let asked: Vec<u8> = Check::OF_HALLS.iter().map(|check| check.number()).collect();
+        assert_eq!(asked, [11, 12, 13, 14, 15, 16, 17, 18, 27, 19]);
+        let of_halls: Vec<u8> = (0..=255).filter(|number| Check::from_number(*number).is_of_halls()).collect();
+        assert_eq!(of_halls, [11, 12, 13, 14, 15, 16, 17, 18, 19, 27]);
     }
 
     #[test]
@@ -118,6 +148,6 @@ mod tests {
     #[test]
     fn checks_are_ordered_by_their_numbers() {
         assert!(Check::ALL.windows(2).all(|pair| pair[0] < pair[1]));
-        assert!(Check::HallBuffer < Check::Unknown(25));
+        assert!(Check::HallBuffer < Check::DegenerateTriangle && Check::DegenerateTriangle < Check::Unknown(28));
     }
 }

@@ -74,6 +74,11 @@ pub enum Detail {
         index: u32,
         vertices: u64,
     },
+    /// The first triangle with two equal indices.
+    Triangle {
+        at: u64,
+        corners: [u32; 3],
+    },
     /// A declaration without a position.
     Declared(VertexDeclaration),
     Layout(VertexBufferLayout),
@@ -119,6 +124,11 @@ impl fmt::Display for Detail {
             Self::One((what, number)) => write!(out, ": {what} {number}"),
             Self::Index { at, index, vertices } => {
                 write!(out, ": index {at} of the geometry is {index}, and it has {}", counted(*vertices, "vertex", "vertices"))
+            }
+            Self::Triangle { at, corners: [a, b, c] } => {
+                let doubled = if a == b || a == c { a } else { b };
+                let times = if a == b && b == c { "three times" } else { "twice" };
+                write!(out, ": triangle {at} of the geometry is {a}, {b}, {c}, with index {doubled} {times}")
             }
             Self::Declared(declaration) => write!(out, ": the vertices have {declaration}"),
             Self::Layout(layout) => write!(out, ": the layout is {}, {layout}", layout.number()),

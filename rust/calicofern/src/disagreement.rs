@@ -7,7 +7,7 @@ use std::fmt;
 #[derive(Debug, Clone, Copy, PartialEq, Eq, PartialOrd, Ord, Hash)]
 #[non_exhaustive]
 pub struct Disagreement {
-    /// The check of a sound hall that the pair would fail, 11 to 18; `None` where no check asks.
+    /// The check of a sound hall that the pair would fail, 11 to 18 or 27; `None` where no check asks.
     pub check: Option<Check>,
     /// What the one is, and its value.
     pub one: (&'static str, u64),
@@ -41,6 +41,7 @@ fn at_most(check: Check, one: Number, other: Number) -> Option<Disagreement> {
 pub fn geometry_disagreements(geometry: &DrawableGeometry<'_>) -> Vec<Disagreement> {
     let mut found = index_disagreements(geometry);
     found.extend(highest_disagreement(geometry));
+    found.extend(degenerate_disagreement(geometry));
     found.extend(vertex_disagreements(geometry));
     found.extend(declaration_disagreements(geometry));
     found
@@ -71,6 +72,17 @@ fn index_disagreements(geometry: &DrawableGeometry<'_>) -> Vec<Disagreement> {
 fn highest_disagreement(geometry: &DrawableGeometry<'_>) -> Option<Disagreement> {
     let needed = ("highest index + 1", u64::from(geometry.index_buffer?.indices().max()?) + 1);
     at_most(Check::IndexRange, needed, ("vertices found", u64::from(geometry.vertex_buffer?.vertex_count)))
+}
+
+/// Whether two of a triangle's indices are equal.
+pub fn is_degenerate([a, b, c]: &[u32; 3]) -> bool {
+    a == b || b == c || a == c
+}
+
+fn degenerate_disagreement(geometry: &DrawableGeometry<'_>) -> Option<Disagreement> {
+    let found = ("triangles found", geometry.triangles().len() as u64);
+    let sound = geometry.triangles().filter(|corners| !is_degenerate(corners)).count();
+    equal(Check::DegenerateTriangle, found, ("triangles of three different indices", sound as u64))
 }
 
 fn vertex_disagreements(geometry: &DrawableGeometry<'_>) -> Vec<Disagreement> {
@@ -136,7 +148,7 @@ mod tests {
     fn each_number_is_held_to_the_others() {
         assert_eq!(sound().len(), 127);
         assert_eq!(checks(&sound()), []);
-        let changes: [(&str, usize, u8, &[Option<u8>]); 11] = [
+        let changes: [(&str, usize, u8, &[Option<u8>]); 15] = [
             ("index count", 22, 6, &[Some(17), Some(17)]),
             ("triangle count", 26, 2, &[Some(17)]),
             ("vertex count", 30, 4, &[Some(16)]),
@@ -148,6 +160,11 @@ mod tests {
             ("count of the vertices", 65, 4, &[Some(16)]),
             ("count of the index block", 111, 4, &[Some(17), Some(17)]),
             ("an index", 119, 3, &[Some(18)]),
+            ("the second index, now the first", 119, 0, &[Some(27)]),
+            ("the second index, now the third", 119, 2, &[Some(27)]),
+            ("the third index, now the first", 123, 0, &[Some(27)]),
+            // the fourth byte of an index: beyond the vertices, and different from the others
+            ("the third index, far beyond", 126, 1, &[Some(18)]),
         ];
         for (what, at, value, expected) in changes {
             let mut list = sound();

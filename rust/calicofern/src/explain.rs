@@ -64,7 +64,7 @@ pub fn adding_geometry(refusal: Refusal, list: &[u8], given: &NewGeometry<'_>) -
     of_outline(refusal, &outline)
 }
 
-/// What is wrong with a geometry that was to be added, by checks 11, 14 to 18 and 21.
+/// What is wrong with a geometry that was to be added, by checks 11, 14 to 18, 21 and 27.
 fn of_given(check: Check, given: &NewGeometry<'_>) -> Option<Detail> {
     let (count, stride) = (given.vertex_count, given.vertex_stride);
     let declaration = given.declaration;
@@ -77,6 +77,7 @@ fn of_given(check: Check, given: &NewGeometry<'_>) -> Option<Detail> {
         Check::VertexCount => Some(Detail::Given(u64::from(count), "vertices are")),
         Check::IndexCounts => Some(given_indices(given.indices)),
         Check::IndexRange => reason::index_of(given.indices.iter().copied(), u64::from(count)),
+        Check::DegenerateTriangle => reason::triangle_of(triangles(given.indices)),
         Check::Target => Some(Detail::Words("there is no model to add a geometry to: add a model first")),
         _ => None,
     }
@@ -84,6 +85,10 @@ fn of_given(check: Check, given: &NewGeometry<'_>) -> Option<Detail> {
 
 fn given_indices(indices: &[u32]) -> Detail {
     Detail::Given(indices.len() as u64, if indices.len() == 1 { "index is" } else { "indices are" })
+}
+
+fn triangles(indices: &[u32]) -> impl Iterator<Item = [u32; 3]> + '_ {
+    indices.chunks_exact(3).filter_map(|three| three.first_chunk().copied())
 }
 
 pub fn removing(refusal: Refusal, list: &[u8], place: Place) -> Refusal {
@@ -114,15 +119,14 @@ pub fn setting(refusal: Refusal, list: &[u8], place: Place, semantic: VertexSema
 pub fn replacing(refusal: Refusal, list: &[u8], place: Place, indices: &[u32]) -> Refusal {
     let refusal = removing(refusal, list, place);
     let vertices = geometry_at(list, place).and_then(|geometry| geometry.vertex_buffer).map(|vertices| vertices.vertex_count);
-    match (refusal.check(), vertices) {
-        (Check::IndexCounts, _) => refusal.because(given_indices(indices)),
-        (Check::IndexRange, Some(vertices)) => match reason::index_of(indices.iter().copied(), u64::from(vertices)) {
-            Some(detail) => refusal.because(detail),
-            None => refusal,
-        },
-        (Check::ImageLength, Some(_)) => of_outline(refusal, &with_indices(list, place, indices.len())),
-        _ => refusal,
-    }
+    let detail = match (refusal.check(), vertices) {
+        (Check::IndexCounts, _) => Some(given_indices(indices)),
+        (Check::IndexRange, Some(vertices)) => reason::index_of(indices.iter().copied(), u64::from(vertices)),
+        (Check::DegenerateTriangle, _) => reason::triangle_of(triangles(indices)),
+        (Check::ImageLength, Some(_)) => return of_outline(refusal, &with_indices(list, place, indices.len())),
+        _ => None,
+    };
+    detail.map_or(refusal, |detail| refusal.because(detail))
 }
 
 /// The outline of a hall in which one geometry has other indices.
@@ -139,7 +143,7 @@ fn with_indices(list: &[u8], place: Place, indices: usize) -> Outline {
 /// What two sections hold is no hall. It is read as a list, of at most `limit` bytes, to find out why.
 pub fn taking_in(refusal: Refusal, sections: &Sections<'_>, at: u64, limit: usize) -> Refusal {
     let check = refusal.check();
-    if check < Check::Records || check > Check::ImageLength {
+    if !check.is_of_halls() {
         return refusal;
     }
     let read = sections.hall_list_within(at, limit.min(READING_LIMIT));

@@ -8,7 +8,7 @@ use crate::{
 };
 use std::fmt;
 
-/// A hall: models and their geometries, in which every count agrees (checks 11 to 19).
+/// A hall: models and their geometries, in which every count agrees and every triangle has three different indices (checks 11 to 19 and 27).
 ///
 /// It owns the list's bytes. Every edit is judged before a byte is written, so a `Hall` is sound at every moment, and a refused call leaves it as it was.
 /// Its buffer grows as edits need it. Two halls are equal when their lists are.
@@ -33,6 +33,8 @@ use std::fmt;
 ///
 /// let refusal = hall.replace_indices(0, 0, &[0, 1, 3]).unwrap_err();
 /// assert_eq!(refusal.number(), 18);
+/// let refusal = hall.replace_indices(0, 0, &[0, 1, 0]).unwrap_err();
+/// assert_eq!(refusal.number(), 27);
 /// assert_eq!(hall.geometry(0, 0).unwrap().triangles().next(), Some([0, 1, 2]));
 /// # Ok::<(), calicofern::Refusal>(())
 /// ```
@@ -52,11 +54,11 @@ pub struct NewGeometry<'a> {
     pub declaration: VertexDeclaration,
     /// The bytes from one vertex to the next.
     pub vertex_stride: u16,
-    /// The number of vertices, 1 to 65,535.
+    /// The number of vertices, 1 to 65,535. Fewer than three make no triangle.
     pub vertex_count: u32,
     /// The bytes of the vertices: count times stride.
     pub vertices: &'a [u8],
-    /// Three for each triangle, each below the number of vertices.
+    /// Three for each triangle, each below the number of vertices, and no two of a triangle equal.
     pub indices: &'a [u32],
 }
 
@@ -99,7 +101,7 @@ impl Hall {
         Ok(Hall { n: list.len(), buffer: list })
     }
 
-    /// A hall of a list that is at hand, such as a file written earlier. Refused by checks 11 to 19.
+    /// A hall of a list that is at hand, such as a file written earlier. Refused by checks 11 to 19 and 27.
     ///
     /// ```
     /// use calicofern::Hall;
@@ -185,7 +187,7 @@ impl Hall {
     /// Adds a geometry at the end of the last model.
     ///
     /// Refused by check 21 where there is no model; by 11 where the vertices' bytes are not count times stride; by 13 where there are 16,384 geometries; by
-    /// 14 to 18 where the geometry's own numbers are at fault; by 19 where the hall would be too large to be saved.
+    /// 14 to 18 and 27 where the geometry's own numbers are at fault; by 19 where the hall would be too large to be saved.
     pub fn add_geometry(&mut self, geometry: NewGeometry<'_>) -> Result<(), Refusal> {
         let given = Given {
             shader: geometry.shader_id,
@@ -251,7 +253,7 @@ impl Hall {
     /// Replaces all indices of a geometry, and with them its counts of indices and triangles.
     ///
     /// Refused by check 21 where there is no such model or geometry; by 17 where the indices are not three for each triangle, or none; by 18 where one is not
-    /// below the number of vertices; by 19 where the hall would be too large to be saved.
+    /// below the number of vertices; by 27 where two of a triangle are equal; by 19 where the hall would be too large to be saved.
     pub fn replace_indices(&mut self, model: u64, geometry: u64, indices: &[u32]) -> Result<(), Refusal> {
         let done = self.edit(|hall, n| calls::replace_indices(hall, n, model, geometry, indices));
         let place = Place { model, geometry: Some(geometry), vertex: None };
@@ -263,7 +265,8 @@ impl Hall {
     /// Vertices without a declaration get a position of three floats, every layout becomes Legacy, and mappings are made of the shader ids. A header that
     /// is not inside its section has no models.
     ///
-    /// Refused by checks 1 to 6 as [`Sections::hall_list`], and by 11 to 19 where what is there is no hall; 11 where a geometry lacks vertices or indices.
+    /// Refused by checks 1 to 6 as [`Sections::hall_list`], and by 11 to 19 and 27 where what is there is no hall; 11 where a geometry lacks
+    /// vertices or indices.
     pub fn take_in(&mut self, sections: &Sections<'_>, at: u64) -> Result<(), Refusal> {
         let done = self.edit(|hall, n| calls::take_in(hall, n, sections.system, sections.graphics, at));
         done.map_err(|refusal| explain::taking_in(refusal, sections, at, ALLOCATION_LIMIT))
@@ -345,5 +348,119 @@ impl fmt::Debug for Hall {
     fn fmt(&self, out: &mut fmt::Formatter<'_>) -> fmt::Result {
         let geometries = self.geometries().count();
         write!(out, "Hall {{ models: {}, geometries: {geometries}, bytes: {} }}", self.models().count(), self.n)
+    }
+}
+
+#[cfg(test)]
+mod tests {
+    use super::*;
+
+    const GIVEN: Given<'_> = Given {
+        shader: 5,
+        flags: 1,
+        declared_stride: 12,
+        unknown_6h: 0,
+        declared_count: 1,
+        types: 6,
+        stride: 12,
+        count: 3,
+        content: &[0; 36],
+        indices: &[0, 1, 2],
+    };
+
+    const REFUSED: Told = Told { check: 27, size: 0 };
+
+    /// The list of a hall of one triangle, which is as long as its buffer.
+    fn sound() -> Vec<u8> {
+        let mut hall = Hall::new();
+        hall.edit(|hall, n| calls::add_model(hall, n, 0, 0)).unwrap();
+        hall.edit(|hall, n| calls::add_geometry(hall, n, GIVEN)).unwrap();
+        hall.into_list()
+    }
+
+    /// A call on a list: its answer, which changes no byte.
+    fn refused(list: &[u8], call: impl Fn(&mut [u8], usize) -> Told) -> Told {
+        let mut buffer = list.to_vec();
+        let told = call(&mut buffer, list.len());
+        assert_eq!(buffer, list);
+        told
+    }
+
+    /// Lists written before check 27 was asked may have such triangles.
+    #[test]
+    fn an_old_hall_with_a_degenerate_triangle_is_refused_by_every_call() {
+        let image = Hall::from_list(sound()).unwrap().save().unwrap();
+        for (at, value) in [(115, 1), (119, 0), (119, 2), (123, 0), (123, 1)] {
+            let mut old = sound();
+            old[at] = value;
+            assert_eq!(refused(&old, |hall, n| calls::add_model(hall, n, 0, 0)), REFUSED);
+            assert_eq!(refused(&old, |hall, n| calls::add_geometry(hall, n, GIVEN)), REFUSED);
+            // the calls that would leave a sound hall, too
+            assert_eq!(refused(&old, |hall, n| calls::remove_geometry(hall, n, 0, 0)), REFUSED);
+            assert_eq!(refused(&old, |hall, n| calls::remove_model(hall, n, 0)), REFUSED);
+            assert_eq!(refused(&old, |hall, n| calls::set_attribute(hall, n, [0; 4], 3, [0; 4])), REFUSED);
+            assert_eq!(refused(&old, |hall, n| calls::replace_indices(hall, n, 0, 0, &[0, 1, 2])), REFUSED);
+            assert_eq!(refused(&old, |hall, n| calls::take_in(hall, n, &image, &[], Sections::SYSTEM)), REFUSED);
+            let mut out = [7; 600];
+            assert_eq!((calls::save(&old, old.len(), &mut out), out), (REFUSED, [7; 600]));
+            // before anything that is asked of the arguments
+            assert_eq!(refused(&old, |hall, n| calls::remove_model(hall, n, 9)), REFUSED);
+            // it can still be looked at
+            assert_eq!((calls::triangle_count(&old), Models::of(&old).count()), (1, 1));
+        }
+    }
+
+    /// The library looks at up to 64 triangles at once: a degenerate one is seen wherever it stands, and an index out of range before it or behind it is told
+    /// first. Triangles beside each other have equal indices throughout.
+    #[test]
+    fn given_triangles_are_asked_wherever_they_stand() {
+        let list = sound();
+        for count in [1, 2, 63, 64, 65, 128, 129, 200] {
+            let given = |at: usize, triangle: [u32; 3], beyond: Option<usize>| {
+                let mut triangles: Vec<[u32; 3]> = [[0, 1, 2], [2, 1, 0]].into_iter().cycle().take(count).collect();
+                triangles[at] = triangle;
+                beyond.into_iter().for_each(|at| triangles[at][at % 3] = 3);
+                let indices = triangles.concat();
+                let added = refused(&list, |hall, n| calls::add_geometry(hall, n, Given { indices: &indices, ..GIVEN }));
+                let replaced = refused(&list, |hall, n| calls::replace_indices(hall, n, 0, 0, &indices));
+                (added.check, replaced.check)
+            };
+            for at in 0..count {
+                for triangle in [[0, 0, 1], [0, 1, 1], [1, 0, 1], [2, 2, 2]] {
+                    assert_eq!(given(at, triangle, None), (27, 27), "{triangle:?} at {at} of {count}");
+                    for beyond in [0, count / 2, count - 1].into_iter().filter(|beyond| *beyond != at) {
+                        assert_eq!(given(at, triangle, Some(beyond)), (18, 18), "{triangle:?} at {at} of {count}, beyond {beyond}");
+                    }
+                }
+            }
+            // sound ones have no room
+            if count > 1 {
+                assert_eq!(given(0, [1, 2, 0], None), (24, 24), "{count}");
+            }
+        }
+    }
+
+    /// The buffer has no byte for a longer hall, so check 24 would be next.
+    #[test]
+    fn a_degenerate_triangle_comes_before_the_room_for_it() {
+        let list = sound();
+        for indices in [[0, 0, 1], [0, 1, 1], [1, 0, 1], [2, 2, 2]] {
+            let longer = [&[0, 1, 2], &indices[..]].concat();
+            let given = Given { indices: &longer, ..GIVEN };
+            assert_eq!(refused(&list, |hall, n| calls::add_geometry(hall, n, given)), REFUSED);
+            assert_eq!(refused(&list, |hall, n| calls::replace_indices(hall, n, 0, 0, &longer)), REFUSED);
+        }
+        let room = |given: Given<'_>| refused(&list, |hall, n| calls::add_geometry(hall, n, given));
+        assert_eq!(room(GIVEN), Told { check: 24, size: 127 + 2 + 65 + 36 + 12 });
+        assert_eq!(room(Given { indices: &[0, 0, 1, 0, 1, 3], ..GIVEN }), Told { check: 18, size: 0 });
+        // its last 16 bytes are the indices
+        let mut image = Hall::from_list(list.clone()).unwrap().save().unwrap();
+        let taken_in = |image: &[u8]| refused(&[], |hall, n| calls::take_in(hall, n, image, &[], Sections::SYSTEM));
+        assert_eq!(taken_in(&image), Told { check: 24, size: 127 });
+        let last = image.len() - 12;
+        image[last] = 0;
+        assert_eq!(taken_in(&image), REFUSED);
+        // the reader does not ask
+        assert_eq!(calls::hall_list(&image, &[], Sections::SYSTEM, &mut [0; 127]), Told { check: 0, size: 127 });
     }
 }

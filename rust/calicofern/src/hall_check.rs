@@ -3,8 +3,9 @@
 use crate::calls::{self, Told};
 use crate::{reason, Refusal};
 
-/// Whether these bytes are a hall: the list of its models and geometries, in which every count agrees. Otherwise the lowest of checks 11 to 19
-/// that fails anywhere in it, for 12 and 14 to 18 with the first place that fails it and the numbers there.
+/// Whether these bytes are a hall: the list of its models and geometries, in which every count agrees and every triangle has three different indices.
+/// Otherwise the first of checks 11 to 18, 27 and 19, in this order, that fails anywhere in it, for 12, 14 to 18 and 27 with the first place that fails it
+/// and the numbers there.
 ///
 /// ```
 /// use calicofern::{hall_check, Check, Sections};

@@ -86,7 +86,7 @@ mod tests {
 
     #[test]
     fn grown_halls_have_the_length_of_their_images() {
-        let (vertices, indices) = ([0; 17 * 40], [0; 60]);
+        let (vertices, indices) = ([0; 18 * 40], [0, 1, 2].repeat(20));
         let mut hall = Hall::new();
         let mut number = 7usize;
         for step in 0..120 {
@@ -97,7 +97,7 @@ mod tests {
             if step % 5 == 0 {
                 continue;
             }
-            let (count, stride, triangles) = (1 + number % 16, 12 + number / 16 % 29, 1 + number / 512 % 20);
+            let (count, stride, triangles) = (3 + number % 16, 12 + number / 16 % 29, 1 + number / 512 % 20);
             let given = NewGeometry {
                 shader_id: 0,
                 declaration: VertexDeclaration::position_only(stride as u16),

@@ -1,7 +1,7 @@
 //! Why a list is no hall: looked for after the library said by which check it is none.
 
 use crate::detail::Detail;
-use crate::disagreement::count_disagreement;
+use crate::disagreement::{count_disagreement, is_degenerate};
 use crate::outline::Outline;
 use crate::{Check, DrawableGeometry, DrawableModel, Models, Place, Refusal, VertexBufferLayout};
 
@@ -21,7 +21,7 @@ pub fn of_list(check: Check, list: &[u8]) -> Refusal {
 pub fn of_reading(check: Check, list: &[u8]) -> Refusal {
     match check {
         Check::Mapping => Refusal::of(check),
-        Check::Strides | Check::Declaration | Check::VertexCount | Check::IndexCounts | Check::IndexRange => {
+        Check::Strides | Check::Declaration | Check::VertexCount | Check::IndexCounts | Check::IndexRange | Check::DegenerateTriangle => {
             of_geometries(check, list, taken_in)
         }
         _ => of_list(check, list),
@@ -44,6 +44,11 @@ pub fn image(outline: &Outline) -> Refusal {
 pub fn index_of(indices: impl Iterator<Item = u32>, vertices: u64) -> Option<Detail> {
     let found = indices.zip(0..).find(|(index, _)| u64::from(*index) >= vertices);
     found.map(|(index, at)| Detail::Index { at, index, vertices })
+}
+
+/// The first of some triangles that has two equal indices.
+pub fn triangle_of(triangles: impl Iterator<Item = [u32; 3]>) -> Option<Detail> {
+    triangles.zip(0..).find(|(corners, _)| is_degenerate(corners)).map(|(corners, at)| Detail::Triangle { at, corners })
 }
 
 /// A geometry as a hall would have it.
@@ -86,7 +91,7 @@ fn of_model(model: &DrawableModel<'_>) -> Option<Found> {
     Some((Some(number), Detail::Pair(("shader mapping entry", u64::from(entry)), shader)))
 }
 
-/// Checks 14 to 18 of one geometry.
+/// Checks 14 to 18 and 27 of one geometry.
 fn of_geometry(check: Check, geometry: &DrawableGeometry<'_>) -> Option<Detail> {
     let vertices = geometry.vertex_buffer?;
     let pair = || count_disagreement(check, geometry).map(|pair| Detail::Pair(pair.one, pair.other));
@@ -97,6 +102,7 @@ fn of_geometry(check: Check, geometry: &DrawableGeometry<'_>) -> Option<Detail> 
         Check::VertexCount => pair().or((vertices.vertex_count == 0).then_some(Detail::One(("vertex count", 0)))),
         Check::IndexCounts => pair().or((geometry.indices_count == 0).then_some(Detail::One(("index count", 0)))),
         Check::IndexRange => index_of(geometry.index_buffer?.indices(), u64::from(vertices.vertex_count)),
+        Check::DegenerateTriangle => triangle_of(geometry.triangles()),
         _ => None,
     }
 }

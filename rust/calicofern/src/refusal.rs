@@ -67,12 +67,13 @@ impl Refusal {
         self.check
     }
 
-    /// The number of the check that failed, 1 to 24.
+    /// The number of the check that failed, 1 to 24 or 27.
     pub fn number(&self) -> u8 {
         self.check.number()
     }
 
-    /// Where it failed, if that is known: what a call named, or for checks 12 to 18 of a list the first place that fails it.
+    /// Where it failed, if that is known: what a call named, or for checks 12, 14 to 18 and 27 of a list the first place that
+    /// fails it.
     pub fn place(&self) -> Option<Place> {
         self.place
     }
@@ -187,6 +188,17 @@ mod tests {
         assert_eq!(refused.to_string(), line);
         assert_eq!(refused.because(Detail::Words("other words")).to_string(), "check 18: other words");
         assert_eq!(refused.because(Detail::Words("other words")).text(), "other words");
+    }
+
+    #[test]
+    fn the_doubled_index_of_a_triangle_is_told() {
+        let line = |corners| refusal(27, 0, 0).because(Detail::Triangle { at: 4, corners }).to_string();
+        let text = "check 27: a triangle is degenerate: its three indices must be different: triangle 4 of the geometry is";
+        assert_eq!(line([7, 7, 2]), format!("{text} 7, 7, 2, with index 7 twice"));
+        assert_eq!(line([2, 7, 7]), format!("{text} 2, 7, 7, with index 7 twice"));
+        assert_eq!(line([7, 2, 7]), format!("{text} 7, 2, 7, with index 7 twice"));
+        assert_eq!(line([7, 7, 7]), format!("{text} 7, 7, 7, with index 7 three times"));
+        assert_eq!(refusal(27, 0, 0).needed(), None);
     }
 
     #[test]

@@ -318,6 +318,57 @@ fn any_file_and_any_command() {
     assert_eq!((status, said.starts_with("hall: check 17: ")), (1, true), "{said}");
 }
 
+/// A hall's file and a drawable, each with a degenerate triangle: they are listed, and refused in one line by every command that wants a hall.
+#[test]
+fn degenerate_triangles_are_refused_with_their_place() {
+    let folder = folder("degenerate");
+    let (file, drawable, script, out) = (path(&folder, "a.hall"), path(&folder, "b.system"), path(&folder, "script"), path(&folder, "out"));
+    printed(&["new", &file]);
+    let two = "vertices 0 0 0  1 0 0  1 1 0  0 1 0 indices 0 1 2  0 2 3";
+    std::fs::write(&script, format!("add-model 0 1\nadd-geometry 5 Position:Float3 {two}\n")).unwrap();
+    printed(&["edit", &file, &script]);
+    printed(&["save", &file, &drawable]);
+    // 0, 2, 3 becomes 0, 2, 0: the last index of the list, and of the image, which ends 4 bytes behind it
+    let mut list = std::fs::read(&file).unwrap();
+    let last = list.len() - 4;
+    list[last] = 0;
+    std::fs::write(&file, list).unwrap();
+    let mut image = std::fs::read(&drawable).unwrap();
+    let last = image.len() - 6;
+    image[last] = 0;
+    std::fs::write(&drawable, image).unwrap();
+    std::fs::write(&script, "add-model 0 0\n").unwrap();
+
+    let line = "hall: check 27: a triangle is degenerate: its three indices must be different: model 0, geometry 0: \
+                triangle 1 of the geometry is 0, 2, 0, with index 0 twice";
+    for words in [
+        &["check", &file][..],
+        &["check", &drawable],
+        &["take-in", &drawable, "--out", &out],
+        &["edit", &file, &script],
+        &["edit", &file, &script, "--out", &out],
+        &["save", &file, &out],
+    ] {
+        assert_eq!(failed(words), (1, line.to_string()), "{words:?}");
+        assert!(!Path::new(&out).exists(), "{words:?}");
+    }
+    // a script that takes in such a drawable, and an edit of a sound hall
+    let sound = path(&folder, "sound.hall");
+    printed(&["new", &sound]);
+    std::fs::write(&script, format!("take-in 0x50000000 {drawable}\n")).unwrap();
+    let line = line.strip_prefix("hall: ").unwrap();
+    assert_eq!(failed(&["edit", &sound, &script]), (1, format!("hall: {script}, line 1: {line}")));
+
+    let pair = "model 0 geometry 0: triangles found 2, but triangles of three different indices 1 (check 27 of a sound hall)";
+    for name in [&file, &drawable] {
+        let text = printed(&["list", name]);
+        let end = format!("\n1 model, 1 geometry, 2 triangles\n1 pair of numbers disagrees:\n! {pair}\n");
+        assert!(text.ends_with(&end), "{text}");
+        assert_eq!(strictly_failed(&["list", name, "--strict"]).1, "hall: --strict: 1 pair of numbers disagrees");
+    }
+    assert!(printed(&["list", &file]).contains(" bytes, not a sound hall; 'hall check' says why\n"));
+}
+
 #[test]
 fn the_limit_of_take_in_is_the_halls() {
     let file = path(&folder("limit"), "a.hall");

@@ -79,6 +79,9 @@ fn a_list_is_a_hall_or_is_refused_with_its_place() {
     assert_eq!(changed(32, 13), (14, geometry));
     assert_eq!(changed(48, 7), (15, geometry));
     assert_eq!(changed(119, 3), (18, geometry));
+    assert_eq!(changed(119, 0), (27, geometry));
+    assert_eq!(changed(119, 2), (27, geometry));
+    assert_eq!(changed(123, 0), (27, geometry));
     // the mapping's entry, the first record's length
     assert_eq!(changed(12, 6), (12, geometry));
     assert_eq!(changed(0, 7), (11, None));
@@ -91,7 +94,7 @@ fn models_and_geometries_come_and_go() {
     let vertices = bytes(&[0.0; 9]);
     hall.add_geometry(NewGeometry { shader_id: 6, ..triangle(&vertices, &[2, 1, 0]) }).unwrap();
     hall.add_model(7, 1).unwrap();
-    hall.add_geometry(NewGeometry { shader_id: 8, ..triangle(&vertices, &[0, 0, 0, 1, 1, 1]) }).unwrap();
+    hall.add_geometry(NewGeometry { shader_id: 8, ..triangle(&vertices, &[0, 1, 2, 2, 1, 0]) }).unwrap();
     let shaders = |hall: &Hall| hall.geometries().map(|(model, _, geometry)| (model, geometry.shader_id)).collect::<Vec<_>>();
     assert_eq!(shaders(&hall), [(0, 5), (0, 6), (1, 8)]);
     assert_eq!(hall.triangle_count(), 4);
@@ -147,6 +150,12 @@ fn a_geometry_is_judged_before_it_is_added() {
         (17, NewGeometry { indices: &[0, 1], ..sound }),
         (17, NewGeometry { indices: &[], ..sound }),
         (18, NewGeometry { indices: &[0, 1, 3], ..sound }),
+        (27, NewGeometry { indices: &[0, 0, 1], ..sound }),
+        (27, NewGeometry { indices: &[0, 1, 1], ..sound }),
+        (27, NewGeometry { indices: &[0, 1, 2, 1, 0, 1], ..sound }),
+        (18, NewGeometry { indices: &[0, 1, 1, 0, 1, 3], ..sound }),
+        (27, NewGeometry { vertex_count: 1, vertices: &vertices[..12], indices: &[0; 3], ..sound }),
+        (27, NewGeometry { vertex_count: 2, vertices: &vertices[..24], indices: &[0, 1, 0], ..sound }),
     ];
     for (expected, given) in cases {
         let (check, _, line) = refused(&mut hall, |hall| hall.add_geometry(given));
@@ -276,6 +285,21 @@ fn indices_are_replaced_by_more_and_by_fewer() {
     let (check, where_it_was, _) = refused(&mut hall, |hall| hall.replace_indices(0, 1, &[0, 1, 2, 3]));
     assert_eq!((check, where_it_was), (17, place(0, Some(1), None)));
     assert_eq!(refused(&mut hall, |hall| hall.replace_indices(0, 1, &[])).0, 17);
+    assert_eq!(refused(&mut hall, |hall| hall.replace_indices(0, 1, &[0, 1, 2, 2, 1, 2])).0, 27);
+    // the last of many triangles
+    let mut wrong = more;
+    let last = wrong.len() - 1;
+    wrong[last] = wrong[last - 2];
+    assert_eq!(refused(&mut hall, |hall| hall.replace_indices(0, 1, &wrong)).0, 27);
+}
+
+/// Surfaces that meet at an edge often have vertices of their own there.
+#[test]
+fn vertices_at_one_position_make_a_triangle() {
+    let mut hall = one_triangle();
+    hall.add_geometry(triangle(&bytes(&[1.0; 9]), &[0, 1, 2])).unwrap();
+    assert_eq!(hall_check(hall.list()), Ok(()));
+    assert_eq!(saved(&hall), hall);
 }
 
 #[test]

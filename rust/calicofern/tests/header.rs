@@ -50,6 +50,16 @@ fn semantics_and_types_are_the_headers() {
     assert_eq!(without_underscores(constants(&header, "type", "CALICOFERN_")), expected);
 }
 
+/// The order of the checks of a hall, as the header lists them for `hall_check`.
+#[test]
+fn the_header_asks_27_between_18_and_19() {
+    let Some(header) = file("include/calicofern.h") else { return };
+    let (text, _) = header.split_once("uint8_t calicofern_hall_check(").unwrap();
+    let (_, text) = text.rsplit_once("/*").unwrap();
+    let numbers: Vec<u8> = text.lines().filter_map(|line| line.strip_prefix("     ")?.split(' ').next()?.parse().ok()).collect();
+    assert_eq!(numbers, [11, 12, 13, 14, 15, 16, 17, 18, 27, 19]);
+}
+
 /// The numbers that `set_attribute` passes are a unit test of the crate.
 #[test]
 fn shapes_are_the_headers() {
@@ -76,7 +86,10 @@ fn the_format_has_every_semantic_and_every_check() {
     let expected: Vec<_> = (0..16).map(|index| (index, VertexSemantic::from_index(index).as_str())).collect();
     assert_eq!(semantics, expected);
     let checks: Vec<u8> = table(&format, "| check | asks | asked by |").iter().map(|row| row[0].parse().unwrap()).collect();
-    assert_eq!(checks, Check::ALL.iter().map(|check| check.number()).collect::<Vec<_>>());
+    // in the order in which they are asked: 27 stands behind 18
+    let mut expected: Vec<u8> = Check::ALL.iter().map(|check| check.number()).filter(|number| *number != 27).collect();
+    expected.insert(18, 27);
+    assert_eq!(checks, expected);
 }
 
 #[test]

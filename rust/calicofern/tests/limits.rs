@@ -1,4 +1,4 @@
-//! The limits of checks 13, 16, 18 and 19, on lists that are longer than the rows of crates/halls_test, and calls on the hall with the most records.
+//! The limits of checks 13, 16, 18, 27 and 19, on lists that are longer than the rows of crates/halls_test, and calls on the hall with the most records.
 
 use std::thread;
 
@@ -7,7 +7,7 @@ use calicofern::{hall_check, Hall, NewGeometry, Refusal, VertexAttributeValue, V
 /// Document 01: the most bytes of an image.
 const IMAGE_LIMIT: u64 = 67_108_864;
 
-/// A geometry of zeros: a position of two halves in each vertex, and indices that are all 0.
+/// A geometry of zeros: a position of two halves in each vertex, and triangles that are all 0, 1, 2.
 #[derive(Clone, Copy)]
 struct Geometry {
     /// As the geometry's own record says.
@@ -17,6 +17,9 @@ struct Geometry {
     count: u32,
     indices: u32,
 }
+
+/// The indices 0, 1, 2.
+const TRIANGLE: [u8; 12] = [0, 0, 0, 0, 1, 0, 0, 0, 2, 0, 0, 0];
 
 /// A list that is written from its first byte on, over zeros.
 struct Writer {
@@ -38,8 +41,8 @@ impl Writer {
 }
 
 impl Geometry {
-    /// The smallest sound one: one vertex and a triangle.
-    const SMALL: Geometry = Geometry::new(1, 4, 3);
+    /// The smallest sound one: three vertices and a triangle.
+    const SMALL: Geometry = Geometry::new(3, 4, 3);
 
     const fn new(count: u32, stride: u16, indices: u32) -> Geometry {
         Geometry { vertices: count as u16, layout: 0, stride, count, indices }
@@ -73,7 +76,7 @@ impl Geometry {
         out.at += self.vertex_bytes();
         out.record(4 + 4 * self.indices as usize, 5);
         out.put(&self.indices.to_le_bytes());
-        out.at += 4 * self.indices as usize;
+        out.put(&TRIANGLE.repeat(self.indices as usize / 3));
     }
 }
 
@@ -199,16 +202,86 @@ fn indices_below_65535() {
     }
 }
 
+/// One vertex and two pass check 16, and make no triangle.
+#[test]
+fn one_vertex_and_two() {
+    for (vertices, indices, expected) in [
+        (1, [0, 0, 0], 27),
+        (1, [0, 1, 0], 18),
+        (1, [0, 1, 2], 18),
+        (2, [0, 0, 0], 27),
+        (2, [0, 1, 0], 27),
+        (2, [1, 1, 0], 27),
+        (2, [0, 1, 1], 27),
+        (2, [0, 1, 2], 18),
+        (2, [2, 2, 2], 18),
+        (3, [0, 1, 2], 0),
+        (3, [2, 0, 1], 0),
+    ] {
+        for more in [0, 1] {
+            let mut models = [vec![Geometry::new(vertices, 4, 3)], vec![Geometry::SMALL; more]].concat();
+            models.rotate_left(more);
+            let mut list = list_of(&[models]);
+            let at = list.len() - 12;
+            list[at..].copy_from_slice(&indices.map(u32::to_le_bytes).concat());
+            assert_eq!(failed(&list), expected, "{vertices} {indices:?}");
+        }
+    }
+}
+
+/// Degenerate triangles at places about blocks of 64, in each pair, and beside an index that names no vertex.
+#[test]
+fn degenerate_triangles_up_to_1000() {
+    let models = [vec![Geometry::new(3, 4, 3_000)], vec![Geometry::new(65_535, 4, 3_000), Geometry::SMALL]];
+    let whole = list_of(&models);
+    assert_eq!(failed(&whole), 0);
+    // where the indices of each geometry end
+    let first = 14 + Geometry::new(3, 4, 3_000).length();
+    let second = first + 16 + Geometry::new(65_535, 4, 3_000).length();
+    assert_eq!(second + Geometry::SMALL.length(), whole.len());
+    for end in [first, second] {
+        for triangle in [0, 1, 62, 63, 64, 65, 127, 500, 958, 959, 960, 998, 999] {
+            let at = end - 12_000 + 12 * triangle;
+            for (place, index) in [(0, 1), (0, 2), (1, 0), (1, 2), (2, 0), (2, 1)] {
+                let mut list = whole.clone();
+                list[at + 4 * place] = index;
+                assert_eq!(failed(&list), 27, "triangle {triangle}: index {place} is {index}");
+                // the first index of all, and the last
+                for other in [14 + models[0][0].length() - 12_000, whole.len() - 4] {
+                    let mut beyond = list.clone();
+                    beyond[other + 3] = 1;
+                    assert_eq!(failed(&beyond), 18, "triangle {triangle}: index {place} is {index}");
+                }
+            }
+        }
+    }
+    // equal indices beside each other, of two triangles
+    let mut list = whole;
+    list[first - 12_000..first - 11_976].copy_from_slice(&[0u32, 1, 2, 2, 1, 0].map(u32::to_le_bytes).concat());
+    assert_eq!(failed(&list), 0);
+}
+
 /// At the limit, and one piece of 16 bytes beyond it.
 fn check_at_the_limit(mut models: Vec<Vec<Geometry>>) {
     grow(&mut models, IMAGE_LIMIT);
-    assert_eq!(check(&models), 0);
+    let mut list = list_of(&models);
+    assert_eq!(failed(&list), 0);
+    let last = list.len() - 1;
+    list[last - 3] = 0;
+    assert_eq!(failed(&list), 27);
     grow(&mut models, IMAGE_LIMIT + 16);
     let mut list = list_of(&models);
     assert_eq!(failed(&list), 19);
-    // the last index is judged first
+    // the last triangle is judged before the image: 0, 1, 0
     let last = list.len() - 1;
+    list[last - 3] = 0;
+    assert_eq!(failed(&list), 27);
+    // and its last index before that
     list[last] = 0x80;
+    assert_eq!(failed(&list), 18);
+    // in another triangle, too
+    list[last] = 0;
+    list[last - 12] = 0x80;
     assert_eq!(failed(&list), 18);
 }
 
@@ -242,13 +315,13 @@ fn find_in(mut hall: Hall) {
     let value = VertexAttributeValue::Half2([1.0, 2.0]);
     for (model, geometry, expected) in [(0, 0, 0), (0, 63, 0), (0, 64, 21), (255, 0, 0), (255, 63, 0), (255, 64, 21), (256, 0, 21)] {
         assert_eq!(number(hall.set_attribute(model, geometry, 0, VertexSemantic::Position, value)), expected, "{model} {geometry}");
-        assert_eq!(number(hall.replace_indices(model, geometry, &[0, 0, 0])), expected, "{model} {geometry}");
+        assert_eq!(number(hall.replace_indices(model, geometry, &[0, 1, 2])), expected, "{model} {geometry}");
     }
     assert_eq!(number(hall.remove_geometry(255, 64)), 21);
     assert_eq!(number(hall.remove_geometry(0, 0)), 0);
     assert_eq!(number(hall.remove_geometry(255, 63)), 0);
     let declaration = VertexDeclaration { flags: 1, stride: 4, unknown_6h: 0, count: 1, types: 1 };
-    let added = NewGeometry { shader_id: 0, declaration, vertex_stride: 4, vertex_count: 1, vertices: &[0; 4], indices: &[0; 3] };
+    let added = NewGeometry { shader_id: 0, declaration, vertex_stride: 4, vertex_count: 3, vertices: &[0; 12], indices: &[0, 1, 2] };
     assert_eq!(number(hall.add_geometry(added)), 0);
     assert!(hall.list().ends_with(&list_of(&[vec![Geometry::SMALL]])[14..]));
     assert_eq!(number(hall.remove_model(256)), 21);

@@ -11,6 +11,7 @@ const STRIDES_14: &str =
 const DECLARED_15: &str = "check 15: a declaration does not fit its vertices: it must declare a position that has bytes, and all components must fit into the stride";
 const COUNTS_16: &str = "check 16: vertex counts disagree: a geometry and its vertex buffer must have the same count, 1 to 65535";
 const INDEX_18: &str = "check 18: an index names no vertex: each must be below the number of vertices";
+const DEGENERATE_27: &str = "check 27: a triangle is degenerate: its three indices must be different";
 const LIMITS_13: &str = "check 13: there are too many models or geometries: a hall has at most 256 models and 16384 geometries";
 
 /// `count` vertices of a position.
@@ -232,6 +233,42 @@ fn a_drawables_declarations_and_indices_are_judged_as_a_hall_has_them() {
     assert_eq!(taken_in(&image).to_string(), text);
 }
 
+/// Makes an index block of an image hold these indices, of two bytes or of four.
+fn put_indices(image: &mut Vec<u8>, block: usize, width: usize, indices: &[u32]) {
+    let data = Sections::SYSTEM + image.len() as u64;
+    image.extend(indices.iter().flat_map(|index| index.to_le_bytes()[..width].to_vec()));
+    put(image, block + 0x08, &(indices.len() as u32).to_le_bytes());
+    put(image, block + 0x0C, &[width as u8, 0]);
+    put(image, block + 0x10, &if width == 2 { data } else { 0 }.to_le_bytes());
+    put(image, block + 0x18, &if width == 2 { 0 } else { data }.to_le_bytes());
+}
+
+#[test]
+fn degenerate_triangles_of_a_drawable_are_found() {
+    let whole = hall().save().unwrap();
+    for width in [2, 4] {
+        let mut image = whole.clone();
+        let blocks = [(1, 1), (1, 2)].map(|(model, geometry)| pointer(&image, block(&image, model, geometry) + 0x38));
+        put_indices(&mut image, blocks[0], width, &[0, 1, 2, 2, 1, 4]);
+        assert!(Hall::from_sections(&Sections::new(&image, &[]), Sections::SYSTEM).is_ok());
+        put_indices(&mut image, blocks[1], width, &[0, 1, 2, 5, 5, 5]);
+        let text = format!("{DEGENERATE_27}: model 1, geometry 2: triangle 1 of the geometry is 5, 5, 5, with index 5 three times");
+        assert_eq!(taken_in(&image).to_string(), text);
+        put_indices(&mut image, blocks[0], width, &[0, 1, 2, 4, 1, 4]);
+        let text = format!("{DEGENERATE_27}: model 1, geometry 1: triangle 1 of the geometry is 4, 1, 4, with index 4 twice");
+        let refusal = taken_in(&image);
+        assert_eq!(refusal.to_string(), text);
+        assert_eq!((refusal.place(), refusal.needed()), (Some(Place::new(1, Some(1), None)), None));
+        // whatever the limit of the hall
+        let within = Hall::from_sections_within(&Sections::new(&image, &[]), Sections::SYSTEM, 10).unwrap_err();
+        assert_eq!(within.number(), 27);
+        // an index that names no vertex is told before, though it stands behind
+        put_indices(&mut image, blocks[1], width, &[0, 1, 2, 5, 5, 6]);
+        let text = format!("{INDEX_18}: model 1, geometry 2: index 5 of the geometry is 6, and it has 6 vertices");
+        assert_eq!(taken_in(&image).to_string(), text);
+    }
+}
+
 /// Where the records of the second model begin in the list of `hall`.
 const SECOND: usize = 127;
 
@@ -258,6 +295,19 @@ fn lists_fail_at_the_first_place_that_fails_the_check() {
         "check 12: a model's mapping is not the list of its geometries' shader ids: it needs one entry for each geometry, in their order";
     let text = format!("{mapping}: model 1, geometry 2: shader mapping entry 9, but shader id 0");
     assert_eq!(failing(&[(SECOND + 16, 9), (second + layout, 2)]), text);
+    // the last geometry's triangles are 0, 1, 2 and 2, 1, 0
+    let last = list.len() - 24;
+    let text = format!("{DEGENERATE_27}: model 1, geometry 2: triangle 1 of the geometry is 2, 1, 1, with index 1 twice");
+    assert_eq!(failing(&[(last + 20, 1)]), text);
+    let text = format!("{DEGENERATE_27}: model 1, geometry 2: triangle 0 of the geometry is 2, 1, 2, with index 2 twice");
+    assert_eq!(failing(&[(last, 2), (last + 20, 1)]), text);
+    let text = format!("{DEGENERATE_27}: model 0, geometry 0: triangle 0 of the geometry is 0, 0, 2, with index 0 twice");
+    assert_eq!(failing(&[(last, 2), (SECOND - 8, 0)]), text);
+    // an index that names no vertex is told before, wherever it stands
+    let text = format!("{INDEX_18}: model 1, geometry 2: index 5 of the geometry is 9, and it has 6 vertices");
+    assert_eq!(failing(&[(last + 20, 9), (SECOND - 8, 0)]), text);
+    let text = format!("{INDEX_18}: model 0, geometry 0: index 1 of the geometry is 9, and it has 3 vertices");
+    assert_eq!(failing(&[(last, 2), (SECOND - 8, 9)]), text);
     // an entry too many in the second model
     let mut longer = [&list[..SECOND + 18], &[0, 0], &list[SECOND + 18..]].concat();
     longer[SECOND] += 2;
@@ -301,6 +351,14 @@ fn given_geometries_are_told_what_is_wrong_with_them() {
     assert_eq!(words(given(3, &[9, 9])), format!("{COUNTS_17}: 2 indices are given"));
     assert_eq!(words(given(3, &[0, 2, 7, 8, 0, 0])), format!("{INDEX_18}: index 2 of the geometry is 7, and it has 3 vertices"));
     assert_eq!(words(given(1, &[0, 1, 0])), format!("{INDEX_18}: index 1 of the geometry is 1, and it has 1 vertex"));
+    // one vertex and two make no triangle
+    assert_eq!(words(given(1, &[0, 0, 0])), format!("{DEGENERATE_27}: triangle 0 of the geometry is 0, 0, 0, with index 0 three times"));
+    assert_eq!(words(given(2, &[1, 0, 1])), format!("{DEGENERATE_27}: triangle 0 of the geometry is 1, 0, 1, with index 1 twice"));
+    assert_eq!(words(given(2, &[1, 0, 2])), format!("{INDEX_18}: index 2 of the geometry is 2, and it has 2 vertices"));
+    assert_eq!(
+        words(given(3, &[0, 1, 2, 2, 1, 1, 0, 0, 0])),
+        format!("{DEGENERATE_27}: triangle 1 of the geometry is 2, 1, 1, with index 1 twice")
+    );
     // the bytes are judged first
     let text = "check 11: the vertices' bytes are not their count times their stride: 35 given, but 3 x 12 is 36";
     assert_eq!(words(NewGeometry { vertices: &[0; 35], ..given(3, &[9]) }), text);
@@ -313,6 +371,11 @@ fn given_indices_are_told_what_is_wrong_with_them() {
     // by the vertices of that geometry, and not of the first
     let text = format!("{INDEX_18}: model 1, geometry 2: index 4 of the geometry is 6, and it has 6 vertices");
     assert_eq!(line(hall.replace_indices(1, 2, &[5, 4, 3, 2, 6, 9])), text);
+    let text = format!("{DEGENERATE_27}: model 1, geometry 2: triangle 2 of the geometry is 4, 4, 3, with index 4 twice");
+    let refused = hall.replace_indices(1, 2, &[5, 4, 3, 3, 4, 5, 4, 4, 3]).unwrap_err();
+    assert_eq!((refused.to_string(), refused.place()), (text, Some(Place::new(1, Some(2), None))));
+    let text = format!("{INDEX_18}: model 1, geometry 2: index 5 of the geometry is 6, and it has 6 vertices");
+    assert_eq!(line(hall.replace_indices(1, 2, &[5, 5, 5, 0, 1, 6])), text);
 }
 
 #[test]
@@ -350,10 +413,19 @@ fn an_image_that_is_too_long_is_measured() {
     assert_eq!(line(hall.add_geometry(large(&bytes, 1_024))), over(added));
     hall.add_geometry(large(&bytes, 1_000)).unwrap();
     let length = hall.save().unwrap().len() as u64;
-    let many = vec![0; 3_000_000];
+    let mut many = [0, 1, 2].repeat(1_000_000);
     assert_eq!(line(hall.replace_indices(1, 3, &many)), over(length - 16 + 6_000_000));
     // of another geometry, whose six indices have 16 bytes as well
     assert_eq!(line(hall.replace_indices(1, 0, &many)), over(length - 16 + 6_000_000));
+    // a degenerate triangle is told before the length, and an index that names no vertex before it
+    many[2_999_999] = 0;
+    let text = format!("{DEGENERATE_27}: model 1, geometry 0: triangle 999999 of the geometry is 0, 1, 0, with index 0 twice");
+    assert_eq!(line(hall.replace_indices(1, 0, &many)), text);
+    many[2_999_998] = 4;
+    let text = format!("{INDEX_18}: model 1, geometry 0: index 2999998 of the geometry is 4, and it has 4 vertices");
+    assert_eq!(line(hall.replace_indices(1, 0, &many)), text);
+    let degenerate = NewGeometry { indices: &[0, 1, 0], ..large(&bytes, 1_024) };
+    assert_eq!(line(hall.add_geometry(degenerate)), format!("{DEGENERATE_27}: triangle 0 of the geometry is 0, 1, 0, with index 0 twice"));
 }
 
 #[test]
@@ -364,7 +436,7 @@ fn a_model_too_many_is_measured() {
     hall.add_geometry(large(&bytes, 1_023)).unwrap();
     let rest = 67_108_864 - hall.save().unwrap().len();
     // 16 bytes of indices there are already
-    hall.replace_indices(0, 0, &vec![0; (rest + 16) / 2 / 3 * 3]).unwrap();
+    hall.replace_indices(0, 0, &[0, 1, 2].repeat((rest + 16) / 2 / 3)).unwrap();
     let length = hall.save().unwrap().len() as u64;
     assert_eq!(length, 67_108_864);
     // one block; the pointers of two models have 16 bytes, as that of one
@@ -455,7 +527,7 @@ fn list_of(geometries: &[Vec<u8>]) -> Vec<u8> {
 #[test]
 fn places_are_the_first_that_fail_the_check() {
     let mut numbers = Numbers(5);
-    let mut seen = [0; 20];
+    let mut seen = [0; 28];
     for _ in 0..2000 {
         let models: Vec<Vec<Vec<u8>>> =
             (0..1 + numbers.below(3)).map(|_| (0..numbers.below(4)).map(|_| any_geometry(&mut numbers)).collect()).collect();
@@ -470,7 +542,7 @@ fn places_are_the_first_that_fail_the_check() {
         assert_eq!(refusal.place(), Some(Place::new(model, Some(geometry), None)), "{refusal}");
         assert!(refusal.to_string().contains(&format!(": model {model}, geometry {geometry}: ")), "{refusal}");
     }
-    assert!((14..=18).all(|check| seen[check] > 10), "{seen:?}");
+    assert!((14..=18).chain([27]).all(|check| seen[check] > 10), "{seen:?}");
 }
 
 /// A geometry of a drawable as a hall would have it, in a list of its own; none where it lacks something.
@@ -499,7 +571,7 @@ fn places_of_drawables_are_the_first_that_fail_the_check() {
     let sample = |name: &str| std::fs::read(format!("{}/samples/{name}", env!("CARGO_MANIFEST_DIR"))).unwrap();
     let drawables = [(sample("layouts.system"), sample("layouts.graphics")), (hall().save().unwrap(), Vec::new())];
     let mut numbers = Numbers(11);
-    let mut seen = [0; 25];
+    let mut seen = [0; 28];
     for step in 0..6000 {
         let (mut system, graphics) = drawables[step % 2].clone();
         for _ in 0..1 + numbers.below(3) {
@@ -509,7 +581,7 @@ fn places_of_drawables_are_the_first_that_fail_the_check() {
         let sections = Sections::new(&system, &graphics);
         let Err(refusal) = Hall::from_sections_within(&sections, Sections::SYSTEM, 1 << 22) else { continue };
         seen[usize::from(refusal.number())] += 1;
-        if !matches!(refusal.number(), 11 | 14..=18) {
+        if !matches!(refusal.number(), 11 | 14..=18 | 27) {
             continue;
         }
         let list = sections.hall_list(Sections::SYSTEM).unwrap();
@@ -520,5 +592,5 @@ fn places_of_drawables_are_the_first_that_fail_the_check() {
         assert_eq!(refusal.place(), first, "{refusal}");
         assert!(first.is_some() && refusal.to_string().contains(&format!("{}", first.unwrap())), "{refusal}");
     }
-    assert!([11, 14, 15, 16, 17, 18].iter().all(|check| seen[*check] > 5), "{seen:?}");
+    assert!([11, 14, 15, 16, 17, 18, 27].iter().all(|check| seen[*check] > 5), "{seen:?}");
 }

@@ -168,6 +168,12 @@ fn a_line_that_fails_leaves_everything() {
     folder.write("script", "set-attribute 0 0 1 Position 22 0 0\nreplace-indices 0 0 0 1 3\n");
     let (status, said) = folder.refused(&["edit", "hall", "script", "--backup"]);
     assert_eq!((status, said.starts_with("hall: script, line 2: check 18: ")), (1, true), "{said}");
+    folder.write("script", "set-attribute 0 0 1 Position 22 0 0\nreplace-indices 0 0 0 1 0\n");
+    let line = "check 27: a triangle is degenerate: its three indices must be different: model 0, geometry 0: \
+                triangle 0 of the geometry is 0, 1, 0, with index 0 twice";
+    for words in [&["edit", "hall", "script", "--backup"][..], &["edit", "hall", "script", "--out", "other"]] {
+        assert_eq!(folder.refused(words), (1, format!("hall: script, line 2: {line}")));
+    }
     folder.write("script", "take-in 0x50000000 nothing.system\n");
     let (status, said) = folder.refused(&["edit", "hall", "script", "--backup"]);
     assert_eq!((status, said.starts_with("hall: script, line 1: nothing.system: ")), (2, true), "{said}");
@@ -249,7 +255,7 @@ fn numbers_that_become_infinite_are_said() {
     let folder = Folder::new("infinite");
     let script = "\
 add-model 0 0
-add-geometry 5 Position:Float3 TexCoord0:Half2 vertices 1e39 0 0 70000 65520  1 1 1 65519.99 1e400 indices 0 1 0
+add-geometry 5 Position:Float3 TexCoord0:Half2 vertices 1e39 0 0 70000 65520  1 1 1 65519.99 1e400  0 0 0 0 0 indices 0 1 2
 set-attribute 1 0 1 Position inf -inf nan
 set-attribute 1 0 1 TexCoord0 -70000 0
 set-attribute 1 0 1 Position 70000 65520 1e38
@@ -303,8 +309,12 @@ fn scripts_that_are_no_text() {
 #[test]
 fn components_in_any_order() {
     let folder = Folder::new("order");
-    folder.write("sorted", "add-geometry 5 Position:Float3 Normal:Float3 vertices 1 2 3 4 5 6  7 8 9 10 11 12 indices 0 1 0x1\n");
-    folder.write("other", "add-geometry 5 Normal:Float3 Position:Float3 vertices 4 5 6 1 2 3  10 11 12 7 8 9 indices 0 0x1 1\n");
+    folder.write(
+        "sorted",
+        "add-geometry 5 Position:Float3 Normal:Float3 vertices 1 2 3 4 5 6  7 8 9 10 11 12  0 0 0 1 1 1 indices 0 1 0x2\n",
+    );
+    folder
+        .write("other", "add-geometry 5 Normal:Float3 Position:Float3 vertices 4 5 6 1 2 3  10 11 12 7 8 9  1 1 1 0 0 0 indices 0 0x1 2\n");
     for name in ["sorted", "other"] {
         folder.printed(&["edit", "hall", name, "--out", &format!("{name}.hall")]);
     }

@@ -48,8 +48,8 @@ a hall or a drawable as an SVG drawing: plan and long section, a colour for each
         name: "check",
         usage: "hall check FILE",
         text: "\
-whether a file is a hall, in which every count agrees, or a drawable that can be taken in as one;
-else the number of the check that fails
+whether a file is a hall, in which every count agrees and every triangle has three different
+indices, or a drawable that can be taken in as one; else the number of the check that fails
 ",
         file: true,
     },
@@ -123,8 +123,9 @@ const SCRIPT: &str = "\
 The lines of a script. # begins a comment; whole numbers are decimal, or hexadecimal after 0x:
   add-model BINDING MASK                      a model without geometries, at the end
   add-geometry SHADER SEMANTIC:TYPE.. vertices NUMBER.. indices INDEX..
-                                              a geometry of the last model, three indices a triangle. A vertex
-                                              has its components' numbers, in the order as written
+                                              a geometry of the last model; a triangle is three different
+                                              indices. A vertex has its components' numbers, in the order as
+                                              written
   remove-geometry MODEL GEOMETRY
   remove-model MODEL
   set-attribute MODEL GEOMETRY VERTEX SEMANTIC NUMBER..

@@ -116,16 +116,21 @@ mod tests {
 
     #[test]
     fn numbers_follow_the_components_as_written() {
-        let sorted = made("5 Position:Float3 Normal:Float3 vertices 1 2 3 4 5 6  7 8 9 10 11 12 indices 0 1 0").unwrap();
-        let other = made("5 Normal:Float3 Position:Float3 vertices 4 5 6 1 2 3  10 11 12 7 8 9 indices 0 1 0").unwrap();
+        let sorted = made("5 Position:Float3 Normal:Float3 vertices 1 2 3 4 5 6  7 8 9 10 11 12  0 0 0 1 1 1 indices 0 1 2").unwrap();
+        let other = made("5 Normal:Float3 Position:Float3 vertices 4 5 6 1 2 3  10 11 12 7 8 9  1 1 1 0 0 0 indices 0 1 2").unwrap();
         assert_eq!(sorted, other);
         assert_eq!(sorted.unified_vertices(0, 0).unwrap()[1].position, [7.0, 8.0, 9.0]);
         // numbers of every length
-        let sorted =
-            made("5 Position:Half4 Normal:RGBA8SNorm Colour0:Colour TexCoord0:Float vertices 1 2 3 4 1 0 0 -1 5 6 7 8 9.5 indices 0 0 0");
-        let other =
-            made("5 TexCoord0:Float Colour0:Colour Position:Half4 Normal:RGBA8SNorm vertices 9.5 5 6 7 8 1 2 3 4 1 0 0 -1 indices 0 0 0");
-        assert_eq!(sorted.unwrap(), other.unwrap());
+        let thrice = |vertex: &str| [vertex; 3].join(" ");
+        let sorted = format!(
+            "5 Position:Half4 Normal:RGBA8SNorm Colour0:Colour TexCoord0:Float vertices {} indices 0 1 2",
+            thrice("1 2 3 4 1 0 0 -1 5 6 7 8 9.5")
+        );
+        let other = format!(
+            "5 TexCoord0:Float Colour0:Colour Position:Half4 Normal:RGBA8SNorm vertices {} indices 0 1 2",
+            thrice("9.5 5 6 7 8 1 2 3 4 1 0 0 -1")
+        );
+        assert_eq!(made(&sorted).unwrap(), made(&other).unwrap());
     }
 
     #[test]
@@ -134,9 +139,11 @@ mod tests {
             let of = VertexComponentType::from_nibble(nibble);
             let count = usize::from(of.component_count());
             let numbers = |numbers: [&str; 4]| numbers[..count].join(" ");
-            let line = |given: &str| format!("1 Tangent:{of} Position:Float3 vertices {given} 1 2 3 indices 0 0 0");
+            let zeros = numbers(["0", "0", "0", "0"]);
+            let line =
+                |given: &str| format!("1 Tangent:{of} Position:Float3 vertices {given} 1 2 3 {zeros} 4 5 6 {zeros} 7 8 9 indices 0 1 2");
             let wanted = numbers(if Form::of(of) == Form::Byte { ["3", "255", "0", "77"] } else { ["0.1", "-0.999", "70000", "inf"] });
-            let mut hall = made(&line(&numbers(["0", "0", "0", "0"]))).unwrap();
+            let mut hall = made(&line(&zeros)).unwrap();
             super::super::attribute::set_attribute(&mut hall, Words::of(&format!("0 0 0 tangent {wanted}"))).map_err(|_| ()).unwrap();
             assert_eq!(made(&line(&wanted)).unwrap(), hall, "{of}");
         }
@@ -166,5 +173,7 @@ mod tests {
         assert!(made("5 Position:Float3 vertices indices 0 0 0").unwrap_err().starts_with("check 16: "));
         assert!(made("5 Normal:Float3 vertices 0 0 0 indices 0 0 0").unwrap_err().starts_with("check 15: "));
         assert!(made("5 Position:Float3 vertices 0 0 0 indices").unwrap_err().starts_with("check 17: "));
+        assert!(made("5 Position:Float3 vertices 0 0 0 indices 0 0 1").unwrap_err().starts_with("check 18: "));
+        assert!(made("5 Position:Float3 vertices 0 0 0 indices 0 0 0").unwrap_err().starts_with("check 27: "));
     }
 }

@@ -34,7 +34,7 @@ fn every_call() {
 fn packed_types_are_stored_as_the_library_stores_them() {
     let mut hall = Hall::new();
     let text =
-        "add-model 0 0\nadd-geometry 1 Position:Half4 Normal:RGBA8SNorm TexCoord0:Half2 vertices 0.1 1 2 3 0.999 -1 0 9 0.3 0.7 indices 0 0 0\n";
+        "add-model 0 0\nadd-geometry 1 Position:Half4 Normal:RGBA8SNorm TexCoord0:Half2 vertices 0.1 1 2 3 0.999 -1 0 9 0.3 0.7  0 0 0 0 0 0 0 0 0 0  0 0 0 0 0 0 0 0 0 0 indices 0 1 2\n";
     assert_eq!(done(&mut hall, text, true), Ok(2));
     let written = hall.clone();
     let again = "set-attribute 0 0 0 Position 0.1 1 2 3\nset-attribute 0 0 0 Normal 0.999 -1 0 9\nset-attribute 0 0 0 TexCoord0 0.3 0.7\n";
@@ -62,6 +62,13 @@ fn a_line_that_fails_is_named() {
     // what the library refuses
     assert!(failing("add-geometry 5 Position:Float3 vertices 0 0 0 indices 0 0 0").starts_with("script, line 1: check 21: "));
     assert!(given("replace-indices 0 0 0 1 3").starts_with("check 18: "));
+    let degenerate = "check 27: a triangle is degenerate: its three indices must be different";
+    let triangle = "triangle 1 of the geometry is 2, 1, 2, with index 2 twice";
+    assert_eq!(given("replace-indices 0 0 0 1 2  2 1 2"), format!("{degenerate}: model 0, geometry 0: {triangle}"));
+    // two vertices make no triangle
+    let line = "add-geometry 5 Position:Float3 vertices 0 0 0  1 0 0 indices 0 1 1";
+    assert_eq!(given(line), format!("{degenerate}: triangle 0 of the geometry is 0, 1, 1, with index 1 twice"));
+    assert!(given("add-geometry 5 Position:Float3 vertices 0 0 0  1 0 0 indices 0 1 2").starts_with("check 18: "));
     assert_eq!(
         given("set-attribute 0 0 3 Position 0 0 0"),
         "check 21: there is no vertex 3 of model 0, geometry 0: it has 3 vertices, numbered from 0"
@@ -75,7 +82,7 @@ fn a_line_that_fails_is_named() {
 
 #[test]
 fn numbers_that_become_infinite_are_counted_or_fail() {
-    let halves = "add-model 0 0\nadd-geometry 1 Position:Half4 Normal:Float3 vertices 0 1 2 65519.99 0 70000 inf indices 0 0 0\n";
+    let halves = "add-model 0 0\nadd-geometry 1 Position:Half4 Normal:Float3 vertices 0 1 2 65519.99 0 70000 inf  0 0 0 0 0 0 0  0 0 0 0 0 0 0 indices 0 1 2\n";
     let strictly = |line: &str| done(&mut Hall::new(), &format!("{halves}{line}"), true);
     assert_eq!(strictly(""), Ok(2));
     assert_eq!(strictly("set-attribute 0 0 0 Normal 70000 65520 -inf"), Ok(3));
@@ -87,7 +94,7 @@ fn numbers_that_become_infinite_are_counted_or_fail() {
         strictly("set-attribute 0 0 0 Normal 1e39 0 1e40").unwrap_err(),
         "script, line 3: --strict: 1e39 becomes infinite as a float (and 1 more number of this line)"
     );
-    let line = "add-geometry 1 Normal:Half2 Position:Float3 vertices 70000 0 70000 0 0 0 -1e5 7 8 9 indices 0 0 0";
+    let line = "add-geometry 1 Normal:Half2 Position:Float3 vertices 70000 0 70000 0 0  0 -1e5 7 8 9  0 0 0 0 0 indices 0 1 2";
     assert_eq!(strictly(line).unwrap_err(), "script, line 3: --strict: 70000 becomes infinite as a half (and 1 more number of this line)");
     // only said
     assert_eq!(done(&mut Hall::new(), &format!("{halves}{line}"), false), Ok(3));
