@@ -225,6 +225,9 @@ static uint64_t whole_sections(void)
 
 static uint64_t any_sections(void) { return next() % 3 ? whole_sections() : word_sections(); }
 
+/* Whether this is a number that the check of a hall gives to a list that is none. */
+static bool refuses_halls(uint8_t check) { return (check >= 11 && check <= 19) || check == 27; }
+
 /* ---- outputs */
 
 static uint64_t *size_out;
@@ -238,7 +241,7 @@ static uint8_t *lend_output(size_t length)
     return out;
 }
 
-static uint64_t accepted, refused[21], result_bytes;
+static uint64_t accepted, refused[28], result_bytes;
 
 /* Looks at the output, gives it back, and returns the size. */
 static uint64_t told(uint8_t check)
@@ -246,7 +249,7 @@ static uint64_t told(uint8_t check)
     struct area *out = &areas[OUTPUT];
     uint64_t size = *size_out;
     require(size != UNWRITTEN, "size was not written");
-    require(check <= 20, "no such check");
+    require(check <= 10 || check == 20 || refuses_halls(check), "no such check");
     require(check != 0 || size <= out->length, "accepted with a size above the output's length");
     bool short_output = check == 7 || check == 10 || check == 20;
     require(!short_output || size > out->length, "7, 10 or 20 though the output was long enough");
@@ -309,11 +312,27 @@ static size_t put_record(size_t at, size_t length, unsigned kind)
     return at + 6;
 }
 
-/* A sound geometry at this place, with positions of three floats; the end of it. */
+/* A triangle of three different vertices, of at least three, as indices at this place; now and then two of them are equal. */
+static void put_triangle(uint8_t *to, size_t vertices)
+{
+    size_t corners[3] = {below(vertices), 0, 0};
+    corners[1] = (corners[0] + 1 + below(vertices - 1)) % vertices;
+    do
+        corners[2] = below(vertices);
+    while (corners[2] == corners[0] || corners[2] == corners[1]);
+    if (next() % 1024 == 0) {
+        size_t place = below(3);
+        corners[place] = corners[(place + 1) % 3];
+    }
+    for (size_t i = 0; i < 3; i++)
+        put(to + 4 * i, corners[i], 4);
+}
+
+/* A geometry at this place, with positions of three floats, sound but for a degenerate triangle now and then; the end of it. */
 static size_t put_geometry(size_t at, size_t shader)
 {
     uint8_t *s = sources[0];
-    size_t triangles = 1 + below(60), vertices = 1 + below(30);
+    size_t triangles = 1 + below(60), vertices = 3 + below(28);
     size_t two = put_record(at, 14, 2), three = put_record(two + 14, 16, 3), four = put_record(three + 16, 7 + 12 * vertices, 4);
     size_t five = put_record(four + 7 + 12 * vertices, 4 + 12 * triangles, 5);
     put(s + two, shader, 2);
@@ -328,8 +347,8 @@ static size_t put_geometry(size_t at, size_t shader)
     put(s + four + 1, 12, 2);
     put(s + four + 3, vertices, 4);
     put(s + five, 3 * triangles, 4);
-    for (size_t i = 0; i < 3 * triangles; i++)
-        put(s + five + 4 + 4 * i, below(vertices), 4);
+    for (size_t i = 0; i < triangles; i++)
+        put_triangle(s + five + 4 + 12 * i, vertices);
     return five + 4 + 12 * triangles;
 }
 
@@ -348,7 +367,7 @@ static void any_hall(void)
 }
 
 /* How often the hall check gave each number. */
-static uint64_t verdicts[20];
+static uint64_t verdicts[28];
 
 static unsigned call_lists(void)
 {
@@ -367,7 +386,7 @@ static unsigned call_lists(void)
     require(triangles == calicofern_triangle_count(list, source_lengths[0]), "triangle_count twice");
     size_t n = next() % 8 ? source_lengths[0] : below(source_lengths[0] + 9);
     uint8_t check = calicofern_hall_check(list, source_lengths[0], n);
-    require(check == 0 || (check >= 11 && check <= 19), "hall_check's number");
+    require(check == 0 || refuses_halls(check), "hall_check's number");
     require(n <= source_lengths[0] || check == 11, "hall_check beyond the list");
     verdicts[check]++;
     give_back_input(FIRST);
@@ -379,7 +398,7 @@ static unsigned call_lists(void)
 static uint8_t before[MOST];
 
 /* How often each number was given. */
-static uint64_t edits[25];
+static uint64_t edits[28];
 
 /* A buffer with a hall, at times a damaged one, in its first bytes; their number. */
 static size_t any_hall_before(size_t *length)
@@ -408,7 +427,7 @@ static void edited(uint8_t check, size_t n)
     struct area *hall = &areas[OUTPUT];
     uint64_t size = *size_out;
     require(size != UNWRITTEN, "size was not written");
-    require(check <= 6 || (check >= 11 && check <= 24 && check != 20), "no such check of an edit");
+    require(check <= 6 || refuses_halls(check) || (check >= 21 && check <= 24), "no such check of an edit");
     if (check) {
         require(check == 24 ? size > hall->length : size == 0, "the size of a refused edit");
         require(memcmp(hall->bytes, before, hall->length) == 0, "a refused edit changed the hall");
@@ -425,13 +444,17 @@ static void edited(uint8_t check, size_t n)
     give_back(SIZE);
 }
 
-/* Indices below `end`, at times one that is not, as the second input. */
+/* Indices below `end`, mostly of triangles of three different vertices, and at times one that is not below, as the second input. */
 static const uint32_t *any_indices(size_t end, size_t *count)
 {
     *count = next() % 8 ? 3 * (1 + below(40)) : below(5);
     source_lengths[1] = 4 * *count;
     for (size_t i = 0; i < *count; i++)
-        put(sources[1] + 4 * i, below(end + (next() % 4096 == 0)), 4);
+        put(sources[1] + 4 * i, below(end), 4);
+    for (size_t i = 0; end > 2 && i + 3 <= *count; i += 3)
+        put_triangle(sources[1] + 4 * i, end);
+    if (*count && next() % 64 == 0)
+        put(sources[1] + 4 * below(*count), end, 4);
     return (const uint32_t *)(const void *)lend_input(SECOND);
 }
 
@@ -482,7 +505,7 @@ static unsigned call_edit(void)
         break;
     }
     case 5: {
-        const uint32_t *indices = any_indices(1 + below(10), &count);
+        const uint32_t *indices = any_indices(1 + below(12), &count);
         uint8_t *hall = lend_hall(length);
         edited(calicofern_replace_indices(hall, length, n, model, geometry, indices, count, size_out), n);
         give_back_input(SECOND);
@@ -611,15 +634,15 @@ static void *drive(void *nothing)
     }
     printf("%llu calls; with an output: %llu accepted (%llu bytes), refused", (unsigned long long)calls, (unsigned long long)accepted,
            (unsigned long long)result_bytes);
-    for (int i = 1; i <= 20; i++)
+    for (int i = 1; i <= 27; i++)
         if (refused[i])
             printf(" %llu by %d", (unsigned long long)refused[i], i);
     printf("; hall checks: %llu sound", (unsigned long long)verdicts[0]);
-    for (int i = 11; i <= 19; i++)
+    for (int i = 11; i <= 27; i++)
         if (verdicts[i])
             printf(", %llu by %d", (unsigned long long)verdicts[i], i);
     printf("; edits: %llu accepted", (unsigned long long)edits[0]);
-    for (int i = 1; i <= 24; i++)
+    for (int i = 1; i <= 27; i++)
         if (edits[i])
             printf(", %llu by %d", (unsigned long long)edits[i], i);
     printf("\n");

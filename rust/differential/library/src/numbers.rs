@@ -53,6 +53,20 @@ impl Random {
         }
     }
 
+    /// A triangle of three different vertices, of at least three; now and then the last one is among them.
+    pub fn triangle(&mut self, vertices: usize) -> [u32; 3] {
+        let mut corners = [0; 3];
+        for place in 0..3 {
+            corners[place] = loop {
+                let drawn = if self.percent(10) { vertices - 1 } else { self.below(vertices) } as u32;
+                if !corners[..place].contains(&drawn) {
+                    break drawn;
+                }
+            };
+        }
+        corners
+    }
+
     /// A length near a multiple of a block's.
     pub fn near_blocks(&mut self, block: usize, most: usize) -> usize {
         let middle = block * self.between(1, most);

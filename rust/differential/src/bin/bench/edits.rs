@@ -273,7 +273,7 @@ fn bench_hall(bench: &Bench, size: &str, list: &[u8], one_model: &[u8]) {
     run(Edit { name: NAMES[8], list, plan, piece: &[], call: &|hall, n| set_attribute(hall, n, place, 3, value) });
 
     // one triangle more
-    let longer: Vec<u32> = indices.iter().chain(&[0, 0, 0]).copied().collect();
+    let longer: Vec<u32> = indices.iter().chain(&[0, 1, 2]).copied().collect();
     let replacement = |range: &Range<usize>| {
         let held = (longer.len() as u32).to_le_bytes();
         let body = (longer.len() as u32 * 4 + 4).to_le_bytes();

@@ -185,8 +185,8 @@ fn drawable(vertices: usize, index_width: usize) -> Drawable {
             graphics.extend(((random.below(4001) as f32 - 2000.0) / 1000.0).to_bits().to_le_bytes());
         }
         let indices = GRAPHICS + graphics.len() as u64;
-        for _ in 0..each * 6 {
-            graphics.extend(&(random.below(each) as u64).to_le_bytes()[..index_width]);
+        for _ in 0..each * 2 {
+            random.triangle(each).iter().for_each(|index| graphics.extend(&index.to_le_bytes()[..index_width]));
         }
         let at = system.len();
         system.resize(at + 0x200, 0);

@@ -452,7 +452,7 @@ struct Whole<'a> {
     indices: &'a [u32],
 }
 
-/// 11 to 19, question by question.
+/// 11 to 18, 27 and 19 in this order, question by question.
 fn judge(models: Vec<ModelClaim>) -> Judged {
     let mut all = Vec::new();
     for claim in models.iter().flat_map(|model| &model.geometries) {
@@ -462,6 +462,8 @@ fn judge(models: Vec<ModelClaim>) -> Judged {
         all.push(Whole { claim, declaration, buffer, count: *count, indices });
     }
     let ids = |model: &ModelClaim| model.geometries.iter().map(|geometry| geometry.shader).collect::<Vec<u16>>();
+    let in_range = |g: &Whole| g.indices.iter().all(|index| u64::from(*index) < g.buffer.count);
+    let distinct = |g: &Whole| g.indices.chunks_exact(3).all(|t| t[0] != t[1] && t[1] != t[2] && t[0] != t[2]);
     let questions = [
         (11, all.iter().all(|g| g.buffer.data.len() as u64 == g.buffer.count * g.buffer.stride)),
         (12, models.iter().all(|model| model.mapping == ids(model))),
@@ -484,7 +486,8 @@ fn judge(models: Vec<ModelClaim>) -> Judged {
                 g.claim.indices == held && g.count == held && held == 3 * g.claim.triangles && held >= 3
             }),
         ),
-        (18, all.iter().all(|g| g.indices.iter().all(|index| u64::from(*index) < g.buffer.count))),
+        (18, all.iter().all(in_range)),
+        (27, all.iter().all(distinct)),
         (19, image_length(&models) <= LIMIT),
     ];
     if let Some((number, _)) = questions.iter().find(|(_, yes)| !yes) {
@@ -521,7 +524,7 @@ fn image_length(models: &[ModelClaim]) -> u64 {
     length
 }
 
-/// The questions 11 to 19 of the first n bytes of a buffer, and the book that they hold.
+/// The questions about a whole hall of the first n bytes of a buffer, and the book that they hold.
 pub fn check(buffer: &[u8], n: usize) -> Judged {
     let list = buffer.get(..n).ok_or(11)?;
     judge(models_of(list).ok_or(11)?)

@@ -98,14 +98,14 @@ fn value_of(shape: u8, value: [u32; 4]) -> Value {
 #[derive(Default)]
 struct Tally {
     accepted: [u64; 7],
-    refused: [[u64; 25]; 7],
+    refused: [[u64; 28]; 7],
     /// Calls on a buffer whose bytes were changed by hand before.
     changed: u64,
     still_sound: u64,
     greatest: usize,
     bytes: u64,
     saved: u64,
-    not_saved: [u64; 25],
+    not_saved: [u64; 28],
     image_bytes: u64,
     longest_image: usize,
 }
@@ -321,6 +321,9 @@ fn room_for(random: &mut Random, judged: &Result<Book, u8>, n: usize, now: usize
 /// is answered with no.
 fn by_hand(random: &mut Random, hall: &Hall, call: &Call, tally: &mut Tally) -> Result<(), String> {
     let mut copy = hall.clone();
+    if random.percent(30) {
+        make_degenerate(random, &mut copy);
+    }
     for _ in 0..random.pick(&[0, 1, 1, 1, 2, 3]) {
         if copy.n > 0 {
             let at = random.below(copy.n);
@@ -352,6 +355,25 @@ fn by_hand(random: &mut Random, hall: &Hall, call: &Call, tally: &mut Tally) -> 
         Err(number) => Err(number),
     };
     copy.compare(call, judged, tally).map(|_| ()).map_err(|what| format!("{what}; n {} of {bytes:?}", copy.n))
+}
+
+/// Writes degenerate triangles into one or two geometries of a hall, and at times an index that names no vertex into another or the same.
+fn make_degenerate(random: &mut Random, hall: &mut Hall) {
+    let mut changed = hall.book.clone();
+    let mut all: Vec<&mut book::Geometry> = changed.models.iter_mut().flat_map(|model| &mut model.geometries).collect();
+    if all.is_empty() {
+        return;
+    }
+    for _ in 0..random.pick(&[1, 1, 2]) {
+        let place = random.below(all.len());
+        sound::make_degenerate(random, &mut all[place].indices);
+    }
+    if random.percent(25) {
+        let place = random.below(all.len());
+        let vertices = all[place].count() as usize;
+        sound::put_beyond(random, vertices, &mut all[place].indices);
+    }
+    hall.buffer[..hall.n].copy_from_slice(&changed.written());
 }
 
 fn any_call(random: &mut Random, book: &Book, images: &[Vec<u8>]) -> Call {
@@ -451,7 +473,7 @@ fn any_drawable(random: &mut Random, images: &[Vec<u8>]) -> Drawable {
     }
 }
 
-/// Question 19: a hall whose image has exactly the greatest length, taken in, and calls that would make it longer.
+/// Question 19: a hall whose image has exactly the greatest length, taken in, and calls that would make it longer; 27 and 18 beside it.
 pub fn limits(seed: u64) -> String {
     let random = &mut Random::new(seed ^ 0x4C49_4D49);
     let mut tally = Tally::default();
@@ -484,9 +506,16 @@ pub fn limits(seed: u64) -> String {
     // the fewest indices more that make the image longer, by 16 bytes
     let more = [3, 6, 9].into_iter().find(|more| (2 * (held + more)).div_ceil(16) > (2 * held).div_ceil(16)).unwrap();
     let mut over = last.clone();
-    over.indices.extend(vec![0; more]);
+    over.indices.extend([0, 1, 2].iter().cycle().take(more));
     let longer = over.indices.clone();
-    let over = Maker::new(random).repeated(&large, times, &over);
+    // the same with a degenerate triangle, and with an index that names no vertex behind it
+    let mut degenerate = over.clone();
+    degenerate.indices[2] = degenerate.indices[0];
+    let mut beyond = degenerate.clone();
+    *beyond.indices.last_mut().unwrap() = 3;
+    let [over, with_degenerate, with_beyond] = [&over, &degenerate, &beyond].map(|last| Maker::new(random).repeated(&large, times, last));
+    let mut large_degenerate = large.clone();
+    large_degenerate.indices[1] = large_degenerate.indices[2];
     let mut hall = Hall::new(Vec::new());
     let (mut calls, mut saves) = (0, Tally::default());
     let mut make = |hall: &mut Hall, call: Call, wanted: u8| {
@@ -500,6 +529,8 @@ pub fn limits(seed: u64) -> String {
     };
     let geometries = times as u64 + 1;
     make(&mut hall, Call::TakeIn(over), 19);
+    make(&mut hall, Call::TakeIn(with_degenerate), 27);
+    make(&mut hall, Call::TakeIn(with_beyond), 18);
     make(&mut hall, Call::TakeIn(full), 0);
     assert_eq!(hall.book.image().len() as u64, LIMIT);
     for room in [LIMIT as usize, LIMIT as usize - 1] {
@@ -508,12 +539,15 @@ pub fn limits(seed: u64) -> String {
     make(&mut hall, Call::AddModel { binding: 0, mask: 0 }, 19);
     make(&mut hall, Call::AddGeometry(least.clone()), 19);
     make(&mut hall, Call::ReplaceIndices { model: 0, geometry: times as u64, indices: longer }, 19);
+    make(&mut hall, Call::ReplaceIndices { model: 0, geometry: times as u64, indices: degenerate.indices }, 27);
+    make(&mut hall, Call::ReplaceIndices { model: 0, geometry: times as u64, indices: beyond.indices }, 18);
     make(&mut hall, Call::ReplaceIndices { model: 0, geometry: times as u64, indices: last.indices.clone() }, 0);
     make(&mut hall, Call::SetAttribute { place: [0, 0, 65_534, 0], shape: 3, value: [1, 2, 3, 0] }, 0);
     make(&mut hall, Call::RemoveGeometry { model: 0, geometry: geometries }, 21);
     make(&mut hall, Call::RemoveGeometry { model: 0, geometry: 0 }, 0);
     make(&mut hall, Call::AddModel { binding: 0, mask: 0 }, 0);
     make(&mut hall, Call::AddGeometry(large), 19);
+    make(&mut hall, Call::AddGeometry(large_degenerate), 27);
     make(&mut hall, Call::AddGeometry(least), 0);
     make(&mut hall, Call::RemoveModel { model: 0 }, 0);
     tally.saved = saves.saved;

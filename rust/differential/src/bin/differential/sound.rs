@@ -31,7 +31,7 @@ pub fn geometry(random: &mut Random) -> Given {
     let count = match random.below(400) {
         0 => random.pick(&[65_535, 40_000]),
         1..=4 => random.between(50, 900),
-        _ => random.pick(&[1, 1, 2, 3, 3, 4, 5, 8, 12]),
+        _ => random.pick(&[3, 3, 3, 4, 5, 8, 12]),
     };
     let triangles = match random.below(200) {
         0 => random.pick(&[22_000, 1_365, 1_366, 341, 342]),
@@ -48,8 +48,31 @@ pub fn geometry(random: &mut Random) -> Given {
     }
 }
 
+/// Triangles of three different vertices, of at least three.
 pub fn indices(random: &mut Random, vertices: usize, count: usize) -> Vec<u32> {
-    (0..count).map(|_| if random.percent(10) { vertices as u32 - 1 } else { random.below(vertices) as u32 }).collect()
+    (0..count / 3).flat_map(|_| random.triangle(vertices)).collect()
+}
+
+/// Makes a triangle degenerate: two of its indices become equal.
+pub fn make_degenerate(random: &mut Random, items: &mut [u32]) {
+    let triangles = items.len() / 3;
+    if triangles == 0 {
+        return;
+    }
+    // at both ends, about a block of 64, and anywhere
+    let whole_blocks = triangles / 64 * 64;
+    let place =
+        random.pick(&[0, triangles - 1, whole_blocks.saturating_sub(1), whole_blocks.min(triangles - 1), random.clone().below(triangles)]);
+    let (to, from) = random.pick(&[(0, 1), (1, 2), (0, 2), (1, 0), (2, 1), (2, 0)]);
+    items[3 * place + to] = items[3 * place + from];
+}
+
+/// Puts an index that names no vertex at a place.
+pub fn put_beyond(random: &mut Random, vertices: usize, items: &mut [u32]) {
+    if !items.is_empty() {
+        let place = random.pick(&[0, items.len() - 1, random.clone().below(items.len())]);
+        items[place] = random.pick(&[vertices as u32, vertices as u32 + 1, u32::MAX, 65_536, 1 << 31]);
+    }
 }
 
 /// Indices, at times with a fault.
@@ -63,21 +86,27 @@ pub fn replacement(random: &mut Random, vertices: usize) -> Vec<u32> {
 }
 
 fn spoil_indices(random: &mut Random, vertices: usize, items: &mut Vec<u32>) {
-    match random.below(4) {
+    match random.below(8) {
         0 => items.truncate(random.pick(&[0, 1, 2])),
         1 => items.push(0),
-        _ if items.is_empty() => {}
+        2..=3 => put_beyond(random, vertices, items),
+        4..=5 => make_degenerate(random, items),
+        6 => {
+            make_degenerate(random, items);
+            put_beyond(random, vertices, items);
+        }
+        // in this order both may be in one triangle, and the index that names no vertex may be there twice
         _ => {
-            let place = random.pick(&[0, items.len() - 1, random.clone().below(items.len())]);
-            items[place] = random.pick(&[vertices as u32, vertices as u32 + 1, u32::MAX, 65_536, 1 << 31]);
+            put_beyond(random, vertices, items);
+            make_degenerate(random, items);
         }
     }
 }
 
-/// A fault or two in a geometry, so that a question of 11 to 18 is answered with no; at times harmless.
+/// A fault or two in a geometry, so that a question of 11 to 18 or 27 is answered with no; at times harmless.
 pub fn spoil(random: &mut Random, given: &mut Given) {
     for _ in 0..random.pick(&[1, 1, 1, 2, 3]) {
-        match random.below(13) {
+        match random.below(15) {
             0 => given.bytes.push(7),
             1 => {
                 given.bytes.pop();
@@ -104,8 +133,18 @@ pub fn spoil(random: &mut Random, given: &mut Given) {
             10 if random.percent(5) => {
                 (given.count, given.bytes) = (65_536, vec![1; 65_536 * given.stride as usize]);
             }
+            11 if given.count > 2 => few_vertices(random, given),
             _ => spoil_indices(random, given.count as usize % 65_536, &mut given.indices),
         }
+    }
+}
+
+/// One or two vertices, which question 16 allows and no triangle can be made of. The indices name these vertices, or are left as they are.
+fn few_vertices(random: &mut Random, given: &mut Given) {
+    given.count = random.pick(&[1, 2]);
+    given.bytes.truncate(given.count as usize * given.stride as usize);
+    if random.percent(70) {
+        given.indices.iter_mut().for_each(|index| *index %= given.count);
     }
 }
 
@@ -115,12 +154,14 @@ pub struct Maker<'a> {
     sections: [Vec<u8>; 2],
     /// How many geometries of a hundred have a fault.
     faults: usize,
+    /// How many geometries of a hundred have a degenerate triangle and no other fault.
+    degenerate: usize,
 }
 
 impl<'a> Maker<'a> {
     pub fn new(random: &'a mut Random) -> Self {
-        let faults = random.pick(&[0, 0, 0, 10]);
-        Self { random, sections: [Vec::new(), Vec::new()], faults }
+        let (faults, degenerate) = random.pick(&[(0, 0), (0, 0), (0, 0), (0, 0), (0, 20), (10, 0), (10, 0)]);
+        Self { random, sections: [Vec::new(), Vec::new()], faults, degenerate }
     }
 
     fn place(&mut self, bytes: &[u8]) -> u64 {
@@ -193,6 +234,9 @@ impl<'a> Maker<'a> {
         if self.faults > 0 && self.random.percent(self.faults) {
             spoil(self.random, &mut given);
         }
+        if self.random.percent(self.degenerate) {
+            make_degenerate(self.random, &mut given.indices);
+        }
         self.geometry_of(&given)
     }
 
@@ -262,7 +306,7 @@ impl<'a> Maker<'a> {
             (128, 128),
         ];
         let mut given = geometry(self.random);
-        while given.bytes.len() + given.indices.len() > 400 {
+        while given.bytes.len() + given.indices.len() > 300 {
             given = geometry(self.random);
         }
         self.faults = 0;
