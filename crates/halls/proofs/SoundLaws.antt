@@ -1,4 +1,4 @@
--- What checks 11 to 19 say of a hall that is sound: the checks one by one, and as facts of its numbers.
+-- What the checks of a hall say of one that is sound: the checks one by one, and as facts of its numbers.
 use mathlib.Core.Path.{_≡_, refl, sym, subst}
 use mathlib.Core.Bool.{Bool, true, false}
 use mathlib.Core.List.{List, [], _∷_}

@@ -1,4 +1,4 @@
--- Checks 11 to 19 (document 01, "Questions at the door") and 27 (document 02, N7): what each asks of a hall's list, and the verdict.
+-- Checks 11 to 19 (document 01, "Questions at the door") and 27 (document 02, N7), the checks of a hall: what each asks of a hall's list, and the verdict.
 use mathlib.Core.Bool.{Bool, true, false, _&&_, not}
 use mathlib.Core.List.{List, [], _∷_, map}
 use mathlib.Core.Option.{Option, none, some}

@@ -1,4 +1,4 @@
--- A hall's list: each geometry has kinds 2 to 5 (document 01, "Halls"). Every number that a record stores is kept, so that counts can disagree; checks 11 to 19 judge it.
+-- A hall's list: each geometry has kinds 2 to 5 (document 01, "Halls"). Every number that a record stores is kept, so that counts can disagree; the checks of a hall (`Checks`) judge it.
 use mathlib.Core.List.{List, map}
 use mathlib.Core.Option.{some}
 use Prim.Native.Nat.{ℕ, _+_, _*_, _^_, _<_}

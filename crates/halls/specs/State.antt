@@ -89,7 +89,7 @@ pub record ModelInWidth (m : Model) : Type 0 where
 abbrev pub StateInWidth : State → Type 0
 StateInWidth s = Each ModelInWidth s
 
--- ---- bytes that are a state written out, and checks 11 to 19 pass
+-- ---- bytes that are a state written out, and the checks of a hall pass
 
 pub record IsState (s : List ℕ) (st : State) : Type 0 where
   pub inWidth : StateInWidth st

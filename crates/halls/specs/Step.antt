@@ -22,17 +22,17 @@ pub data Step : Type 0 where
   stays : (check needed : ℕ) → Step
   becomes : State → Step
 
--- checks 11 to 19 of a hall, then what follows
+-- the checks of a hall (`verdict`), then what follows
 abbrev pub ifSound : Verdict → Step → Step
 ifSound Sound next = next
 ifSound (Fails check) next = stays check 0
 
--- checks 11 to 19 on the result, then 24 with the needed bytes
+-- these on the result, then 24 with the needed bytes
 abbrev pub settled : ℕ → Reading Hall → Step
 settled room (refused check) = stays check 0
 settled room (read h) = ifSound (verdict h) (cond (leb (length (hallBytes h)) room) (becomes (stateOf h)) (stays 24 (length (hallBytes h))))
 
--- checks 11 to 19 on the old hall; 11 asks too whether its n is within the buffer
+-- these on the old hall; 11 asks too whether its n is within the buffer
 abbrev pub stateVerdict : ℕ → State → Verdict
 stateVerdict room s = require 11 (leb (length (stateBytes s)) room) (verdict (hallOf s))
 

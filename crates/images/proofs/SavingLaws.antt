@@ -87,7 +87,7 @@ module _ (h : Hall) (d : List ℕ) (size : ℕ) (q : size ≡ imageSize h) where
   saved-done fit e = record { answer = rw (long, le-leb size (length d) fit) (ap {B = Answer} Accepted (sym long)); bytes = rw (long, le-leb size (length d) fit) e }
 
 module _ (b : List ℕ) (n : ℕ) (d : List ℕ) where
-  -- checks 11 to 19
+  -- the checks of a hall
   pub saved-fails : (check : ℕ) → hallVerdict b n ≡ Fails check → Saved b n d (Refused (record { check = check; needed = 0 })) d
   unfolding saved
   saved-fails check e = record { answer = rw e; bytes = rw e }

@@ -15,7 +15,7 @@ use Rattle.halls.specs.declared.check.check.Verdict.{Verdict}
 use Rattle.halls.specs.declared.check.check.Verdict.the-variants.{Sound, Fails}
 use Rattle.images.specs.Image.{image}
 
--- checks 11 to 19 on the hall, then 20 with the needed bytes
+-- the checks of a hall, then 20 with the needed bytes
 abbrev pub savedBy : Verdict → ℕ → Hall → Outcome
 savedBy (Fails check) room h = refusal check 0
 savedBy Sound room h = cond (leb (length (image h)) room) (written (image h)) (refusal 20 (length (image h)))

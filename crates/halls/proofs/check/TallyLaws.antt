@@ -1,4 +1,4 @@
--- What a walk adds up is what the verdict asks: the lowest check that fails anywhere, the counts, and the image's size.
+-- What a walk adds up is what the verdict asks: the first check that fails anywhere, as the lowest rank, the counts, and the image's size.
 use mathlib.Core.Path.{_≡_, refl, sym, ap, _∙_}
 use mathlib.Core.Bool.{Bool, true, false, cond, _&&_, and-true}
 use mathlib.Core.List.{List, [], _∷_}
@@ -141,7 +141,7 @@ module _ (h : Hall) where
   abbrev among : Bool → Bool → Bool → Bool → Bool → Bool → Bool → ℕ
   among a c d e f g i = lowestAmong a (countsWithinLimits h) c d e f g i (imageWithinLimit h)
 
-  -- checks 12 and 14 to 18 by models, 13 and 19 of the whole
+  -- checks 12, 14 to 18 and 27 by models, 13 and 19 of the whole
   lowest-all : min (modelsLowest h) (cond (countsWithinLimits h) (failing tooLarge (imageWithinLimit h)) 13)
       ≡ among (every mappingMatches h) (everyGeometry stridesAgree h) (everyGeometry componentsInside h) (everyGeometry vertexCountsAgree h) (everyGeometry indexCountsAgree h) (everyGeometry indicesInRange h) (everyGeometry trianglesDistinct h)
   lowest-all =

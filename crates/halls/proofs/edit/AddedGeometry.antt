@@ -170,7 +170,7 @@ module _ (b : List ℕ) (n : ℕ) (o : Old b n) (x : Given) (m : ℕ) (em : m �
       (ap (λ (k : FullModel). replaced m (withGiven k x) (hallOf (stateIn b n))) (model-of-state last sound-last)
       ∙ ap (replaced m grown) (o .back)))
 
-  -- ---- checks 11 to 19
+  -- ---- the checks of a hall
 
   passes : (test : FullGeometry → Bool) → everyGeometry test h ≡ true → everyGeometry test result ≡ test y
   unfolding every

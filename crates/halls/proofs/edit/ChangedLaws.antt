@@ -128,7 +128,7 @@ module _ (h : Hall) (m g : ℕ) (x : FullModel) (f : FullGeometry) (em : item m 
           length-replaced m h x (changedModel g x y) em,
         )
 
-    -- where the new geometry has the old one's shader id and passes checks 11 and 14 to 16, checks 17 to 19 decide
+    -- where the new geometry has the old one's shader id and passes checks 11 and 14 to 16, checks 17, 18, 27 and 19 decide
     pub verdict-changed : SoundHall h → y .shader ≡ f .shader → vertexBytesExact y ≡ true → stridesAgree y ≡ true → componentsInside y ≡ true → vertexCountsAgree y ≡ true
         → verdict (changedHall m g h x y) ≡ require 17 (indexCountsAgree y) (require 18 (indicesInRange y) (require 27 (trianglesDistinct y) (require 19 (imageWithinLimit (changedHall m g h x y)) Sound)))
     unfolding verdict

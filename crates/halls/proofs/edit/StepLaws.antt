@@ -77,7 +77,7 @@ lowest-sound b n r x h = sym (x .verdict) ∙ rw (le-leb passed (r .lowest) h)
 -- ---- one call
 
 module _ (c : Call) (b : List ℕ) (n : ℕ) where
-  -- checks 11 to 19 on the old hall
+  -- the checks of a hall on the old one
   pub stays-old : (check : ℕ) → hallVerdict b n ≡ Fails check → Stepped c b n (Refused (record { check = check; needed = 0 })) b
   unfolding stepIn
   stays-old check e = record { answer = rw e; bytes = rw e }
@@ -95,7 +95,7 @@ module _ (c : Call) (b : List ℕ) (n : ℕ) where
     stays-barred check e = by-step (stays check 0) (step-is ∙ rw e)
 
     module _ (h : Hall) (e : proposed c (stateIn b n) ≡ read h) where
-      -- checks 11 to 19 on the result
+      -- and on the result
       pub stays-judged : (check : ℕ) → verdict h ≡ Fails check → Stepped c b n (Refused (record { check = check; needed = 0 })) b
       stays-judged check v = by-step (stays check 0) (step-is ∙ rw (e, v))
 

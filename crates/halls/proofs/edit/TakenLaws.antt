@@ -102,7 +102,7 @@ module _ (s : Sections) (va : ℕ) (b : List ℕ) (n : ℕ) (old : Old b n) (ps 
     same-lowest : lowest ≡ lowestTaken sum
     same-lowest = l ∙ ap lowestTaken e
 
-    -- checks 11 to 19
+    -- the checks of a hall
     pub taken-fails : lowest < passed → Stepped (takeIn s va) b n (Refused (record { check = checkOf lowest; needed = 0 })) b
     taken-fails low = on (allOf takenModel (modelsAt s ps)) refl
       where

@@ -54,7 +54,7 @@ asHalls g = takenGeometry g (g .vertices) (g .indices)
 
 -- ---- what they come to
 
--- the lowest of checks 11 and 14 to 18 that fails
+-- the lowest rank of checks 11, 14 to 18 and 27 that fails
 abbrev pub lowestIn : Option FullGeometry → ℕ
 lowestIn none = 11
 lowestIn (some g) = lowestOf g

@@ -38,7 +38,7 @@ pub fn remove_model(hall: &mut [u8], n: usize, model: u64) -> Answer
     remove_model_in_hall(hall, n, model)
 }
 
-// In a sound hall. Removing keeps checks 11 to 19, so the result is not looked at.
+// In a sound hall. Removing keeps every check of a hall, so the result is not looked at.
 fn remove_model_in_hall(hall: &mut [u8], n: usize, model: u64) -> Answer
     requires { ⌜ hallVerdict (now hall) n ≡ Sound ⌝ }
     ensures { λ r. ⌜ Stepped (removeModel model) (now (hall .entry)) n r (now (hall .exit)) ⌝ }

@@ -1,4 +1,4 @@
--- Its lowest check, its part of the image and its records, by the vertex bytes and indices that it shows.
+-- The rank of its first failing check, its part of the image and its records, by the vertex bytes and indices that it shows.
 use borrow.Author.Needs.{needs}
 use Rattle.sections.specs.Address.{sections}
 use Rattle.halls.proofs.edit.ShownLaws.{view-taken}

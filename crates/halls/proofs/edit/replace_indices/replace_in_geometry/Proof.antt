@@ -1,4 +1,4 @@
--- The lowest check that the new indices fail refuses, then a buffer that is too short; else the bytes are those of the hall with them.
+-- The first check that the new indices fail refuses, then a buffer that is too short; else the bytes are those of the hall with them.
 use Prim.Native.Nat.{_+_, _*_, _≤_}
 use native.Mathlib.Omega.{arith}
 use borrow.Author.Needs.{needs}
