@@ -1,4 +1,6 @@
 // Halls: the list of a drawable's models and geometries, the check that makes it a hall, and the calls that edit one.
+#![tactic(auto)]
+
 mod answer;
 mod check;
 mod edit;

@@ -1,6 +1,8 @@
 // Reads the drawables of standard input through the crate `halls`, checks its halls, makes its calls and finds what is in them, and prints
 // a line for each: what was asked, in hexadecimal, and what was answered; of a drawable or a call also the buffer's checksum and a short
 // list's bytes. tests/expected/halls.py makes the drawables, the halls, the calls and the lines.
+#![tactic(auto)]
+
 mod buffers;
 mod calls;
 mod checks;

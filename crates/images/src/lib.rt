@@ -1,4 +1,6 @@
 // Images: a hall saved as a drawable's system section.
+#![tactic(auto)]
+
 mod blocks;
 mod geometry;
 mod indices;

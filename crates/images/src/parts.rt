@@ -7,7 +7,7 @@ ghost use Rattle.images.specs.Image.{base, filled, pointer_to, zeros};
 use sections::{SYSTEM_BASE, copy_into, zero};
 
 // How long a geometry or a model is, or several: bytes in the list, and in the image.
-#[derive(Drop)]
+#[derive(Clone, Copy)]
 pub struct Measured {
     pub length: usize,
     pub size: usize,

@@ -4,7 +4,7 @@ use replay::{accepted, answered, called_first, nothing, refused};
 use testing::{Row, bytes, fill, first, numbers, rest, text};
 
 // The first `room` bytes of the hall's buffer are lent, and the first n of those are the hall; `more` is whether there was a row.
-#[derive(Drop)]
+#[derive(Clone, Copy)]
 pub struct Stand {
     pub room: usize,
     pub n: usize,

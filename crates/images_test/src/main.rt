@@ -1,5 +1,7 @@
 // Makes the lists of calls of standard input, each in one buffer from call to call, and prints a line for each call: what was asked, in hexadecimal, and
 // what was answered, with the checksum of the whole buffer and what is short of its bytes. tests/expected/lists.py makes the lists and the lines.
+#![tactic(auto)]
+
 mod lists;
 
 use libc::STDIN_FILENO;

@@ -1,4 +1,6 @@
 // What the test programs about halls share: calls made as rows give them, and the lines about their answers.
+#![tactic(auto)]
+
 mod calls;
 mod lines;
 

@@ -1,5 +1,7 @@
 // Bytes and addresses: little-endian fields of a byte slice, edits of one, and lookup of an address in the two sections
 // of a drawable. No public function requires anything of its caller.
+#![tactic(auto)]
+
 mod edits;
 mod fields;
 mod lists;

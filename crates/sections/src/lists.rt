@@ -7,7 +7,7 @@ use crate::fields::{u16_le, u64_le};
 use crate::lookup::{Located, locate, resolve};
 
 // Where a list's elements lie. A list with count 0 or pointer 0 is empty, never an error.
-#[derive(Drop)]
+#[derive(Clone, Copy)]
 pub enum LocatedList {
     Empty,
     Found(Located),
@@ -15,14 +15,14 @@ pub enum LocatedList {
 }
 
 // 16 bytes: pointer at 0, count at 8, capacity at 10.
-#[derive(Drop)]
+#[derive(Clone, Copy)]
 pub struct PointerListHeader {
     pub pointer: u64,
     pub count: u16,
     pub capacity: u16,
 }
 
-#[derive(Drop)]
+#[derive(Clone, Copy)]
 pub enum FoundHeader {
     Header(PointerListHeader),
     Unresolved,

@@ -13,7 +13,7 @@ pub const GRAPHICS_BASE: u64 = 0x6000_0000;
 pub const SECTION_LIMIT: usize = 67_108_864;
 
 // Where a range lies: the section, and the offset in it.
-#[derive(Drop)]
+#[derive(Clone, Copy)]
 pub enum Located {
     System(usize),
     Graphics(usize),

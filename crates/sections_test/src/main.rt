@@ -1,5 +1,7 @@
 // Runs the rows of standard input through the crate `sections` and prints a line for each: what was called, what with, in
 // hexadecimal, and what came of it. tests/expected/sections.py makes both the rows and the lines that must come out.
+#![tactic(auto)]
+
 mod buffers;
 mod edits;
 mod fields;

@@ -1,4 +1,6 @@
 // What the test programs share: rows, parts of buffers, and what a line is made of.
+#![tactic(auto)]
+
 mod buffers;
 mod print;
 mod rows;

@@ -2,7 +2,7 @@
 use crate::print::{number, text};
 
 // What is called, and the numbers that it is called with.
-#[derive(Drop)]
+#[derive(Clone, Copy)]
 pub struct Row {
     pub kind: u64,
     pub a: u64,

@@ -13,7 +13,7 @@ use crate::types::{VertexComponent, VertexComponentType};
 use crate::values::{Bytes4, F32, ONE, Vec2, Vec3, Vec4, ZERO};
 
 // One to four floats, or four bytes; unsupported where the type has no size.
-#[derive(Drop)]
+#[derive(Clone, Copy)]
 pub enum VertexAttributeValue {
     One(F32),
     Two(Vec2),
@@ -23,14 +23,14 @@ pub enum VertexAttributeValue {
     Unsupported,
 }
 
-#[derive(Drop)]
+#[derive(Clone, Copy)]
 pub struct VertexAttribute {
     pub component: VertexComponent,
     pub value: VertexAttributeValue,
 }
 
 // The first `count` items are the attributes; the others are empty. A refusal is the number of the check that failed, or 0.
-#[derive(Drop)]
+#[derive(Clone, Copy)]
 pub struct VertexAttributes {
     pub refusal: u8,
     pub items: [VertexAttribute; 16],

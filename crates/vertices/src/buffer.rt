@@ -7,7 +7,7 @@ use crate::declaration::{VertexDeclaration, read_declaration};
 use sections::{Located, locate, resolve, u16_le, u32_le, u64_le};
 
 // Which layout the vertices were found by.
-#[derive(Drop)]
+#[derive(Clone, Copy)]
 pub enum VertexBufferLayout {
     Legacy,
     LegacyData2,
@@ -15,14 +15,14 @@ pub enum VertexBufferLayout {
     GeometryInline,
 }
 
-#[derive(Drop)]
+#[derive(Clone, Copy)]
 pub enum StoredDeclaration {
     Declaration(VertexDeclaration),
     Absent,
 }
 
 // `data` is where the count × stride bytes lie.
-#[derive(Drop)]
+#[derive(Clone, Copy)]
 pub struct VertexBuffer {
     pub vertex_stride: u16,
     pub vertex_count: u32,
@@ -33,7 +33,7 @@ pub struct VertexBuffer {
     pub layout: VertexBufferLayout,
 }
 
-#[derive(Drop)]
+#[derive(Clone, Copy)]
 pub enum FoundBuffer {
     Buffer(VertexBuffer),
     NotFound,

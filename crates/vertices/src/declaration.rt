@@ -6,7 +6,7 @@ ghost use Rattle.vertices.specs.Declaration.{declaration_at, declaration_bytes, 
 use crate::types::{VertexComponent, VertexComponentType, VertexSemantic};
 
 // Bit i of flags says that there is a component of semantic i; its type is the i-th nibble of types.
-#[derive(Drop)]
+#[derive(Clone, Copy)]
 pub struct VertexDeclaration {
     pub flags: u32,
     pub stride: u16,
@@ -16,13 +16,13 @@ pub struct VertexDeclaration {
 }
 
 // The first `count` items are the components; the others are empty.
-#[derive(Drop)]
+#[derive(Clone, Copy)]
 pub struct ComponentList {
     pub items: [VertexComponent; 16],
     pub count: usize,
 }
 
-#[derive(Drop)]
+#[derive(Clone, Copy)]
 pub enum FoundComponent {
     Component(VertexComponent),
     Missing,

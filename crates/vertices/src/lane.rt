@@ -10,7 +10,7 @@ use crate::types::{VertexComponent, VertexComponentType};
 use crate::unify::UnifiedPlan;
 
 // Where a word comes from. The number is an offset in the vertex, that of Constant the word itself.
-#[derive(Drop)]
+#[derive(Clone, Copy)]
 pub enum Lane {
     Constant(u32),
     // A float.

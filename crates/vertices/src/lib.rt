@@ -1,4 +1,6 @@
 // Vertices: floats carried as their bits, and how vertex data stores them.
+#![tactic(auto)]
+
 mod attribute;
 mod buffer;
 mod byte_runs;

@@ -17,7 +17,7 @@ const HALVES: usize = 256;
 const FLOATS: usize = 64;
 
 // Both count bytes.
-#[derive(Drop)]
+#[derive(Clone, Copy)]
 pub enum RunAnswer {
     Written(usize),
     Needs(usize),

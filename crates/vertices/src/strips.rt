@@ -15,7 +15,7 @@ use crate::types::VertexComponentType;
 use crate::values::Bytes4;
 
 // The word `word` of the vertices from `first` to `end`.
-#[derive(Drop)]
+#[derive(Clone, Copy)]
 pub struct Strip {
     pub first: usize,
     pub end: usize,

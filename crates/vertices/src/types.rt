@@ -3,7 +3,7 @@ ghost use Rattle.std.specs.Prelude.{◌≡◌};
 ghost use Rattle.vertices.specs.Types.{component_type_of, nibble_of, size_of, count_of, semantic_of};
 
 // The type of a component. The declaration stores it as a number of 4 bits.
-#[derive(Drop)]
+#[derive(Clone, Copy)]
 pub enum VertexComponentType {
     Nothing,
     Half2,
@@ -20,7 +20,7 @@ pub enum VertexComponentType {
 }
 
 // What a component is for. Its number is that of its flag.
-#[derive(Drop)]
+#[derive(Clone, Copy)]
 pub enum VertexSemantic {
     Position,
     BlendWeights,
@@ -42,7 +42,7 @@ pub enum VertexSemantic {
 }
 
 // One component of every vertex: offset and size are in bytes, component_count is its number of values.
-#[derive(Drop)]
+#[derive(Clone, Copy)]
 pub struct VertexComponent {
     pub semantic: VertexSemantic,
     pub semantic_index: u8,

@@ -11,7 +11,7 @@ use crate::strips::{Strip, base_of, write_strip};
 use crate::values::{Bytes4, Vec2, Vec3, Vec4};
 use sections::copy_within;
 
-#[derive(Drop)]
+#[derive(Clone, Copy)]
 pub struct UnifiedVertex {
     pub position: Vec3,
     pub normal: Vec3,
@@ -25,7 +25,7 @@ pub struct UnifiedVertex {
 }
 
 // Both numbers count bytes. OutsideData: a component of some vertex does not end inside the data.
-#[derive(Drop)]
+#[derive(Clone, Copy)]
 pub enum UnifyAnswer {
     Written(u64),
     OutsideData,
@@ -33,7 +33,7 @@ pub enum UnifyAnswer {
 }
 
 // The component behind each field. It depends on the declaration alone, and is found once for all vertices.
-#[derive(Drop)]
+#[derive(Clone, Copy)]
 pub struct UnifiedPlan {
     pub position: FoundComponent,
     pub normal: FoundComponent,

@@ -1,25 +1,25 @@
 // Values by value. A float is carried as its 32 bits, so that a NaN keeps its sign and payload.
 ghost use Rattle.std.specs.Prelude.{◌≡◌};
 
-#[derive(Drop)]
+#[derive(Clone, Copy)]
 pub struct F32 {
     pub bits: u32,
 }
 
-#[derive(Drop)]
+#[derive(Clone, Copy)]
 pub struct Vec2 {
     pub x: F32,
     pub y: F32,
 }
 
-#[derive(Drop)]
+#[derive(Clone, Copy)]
 pub struct Vec3 {
     pub x: F32,
     pub y: F32,
     pub z: F32,
 }
 
-#[derive(Drop)]
+#[derive(Clone, Copy)]
 pub struct Vec4 {
     pub x: F32,
     pub y: F32,
@@ -28,7 +28,7 @@ pub struct Vec4 {
 }
 
 // Four bytes, in the order in which the data holds them.
-#[derive(Drop)]
+#[derive(Clone, Copy)]
 pub struct Bytes4 {
     pub a: u8,
     pub b: u8,

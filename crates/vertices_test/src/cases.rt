@@ -2,7 +2,7 @@
 ghost use Rattle.std.specs.Prelude.{◌<◌};
 
 // What a file holds. A file without inputs has one record for each half or byte, in order.
-#[derive(Drop)]
+#[derive(Clone, Copy)]
 pub enum Kind {
     Halves,
     Neighbours,
@@ -13,7 +13,7 @@ pub enum Kind {
     Unorm,
 }
 
-#[derive(Drop)]
+#[derive(Clone, Copy)]
 pub struct Case {
     pub input: u32,
     pub expected: u32,

@@ -7,7 +7,7 @@ use libc::STDOUT_FILENO;
 // A whole number of records of every kind: a multiple of 84.
 const CHUNK: usize = 65_520;
 
-#[derive(Drop)]
+#[derive(Clone, Copy)]
 struct Tally {
     records: u64,
     agree: u64,

@@ -1,5 +1,7 @@
 // Compares the crate `vertices` with answers of the Rust, kept in files that tests/expected/vertices.rs makes, and prints for
 // each file how many agree. Of those that do not, the first is printed with its input.
+#![tactic(auto)]
+
 mod cases;
 mod files;
 

@@ -8,7 +8,7 @@ use crate::check::order::{PASSED, check_of, verdict_of};
 use crate::check::pass::{Findings, Mark, Summary, survey};
 
 // The first check, in the order in which they are asked, that fails anywhere in the hall.
-#[derive(Drop)]
+#[derive(Clone, Copy)]
 pub enum Verdict {
     Sound,
     Fails(u8),
@@ -23,7 +23,7 @@ pub fn hall_check(hall: &[u8], n: usize) -> Verdict
 }
 
 // Of a sound hall its models, and the bytes of its image.
-#[derive(Drop)]
+#[derive(Clone, Copy)]
 pub enum HallSize {
     Sized(usize, usize),
     Unsound(u8),

@@ -12,7 +12,7 @@ use crate::check::pass::Mark;
 use sections::{u16_le, u32_le};
 
 // The places of a model's record and of the four records of one of its geometries.
-#[derive(Drop)]
+#[derive(Clone, Copy)]
 pub struct GeometryPlace {
     pub model: usize,
     pub geometry: usize,
@@ -21,13 +21,13 @@ pub struct GeometryPlace {
     pub indices: usize,
 }
 
-#[derive(Drop)]
+#[derive(Clone, Copy)]
 pub enum FoundModel {
     At(usize),
     Absent,
 }
 
-#[derive(Drop)]
+#[derive(Clone, Copy)]
 pub enum FoundGeometry {
     At(GeometryPlace),
     Absent,

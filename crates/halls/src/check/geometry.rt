@@ -10,7 +10,7 @@ use sections::{u8_le, u16_le, u32_le};
 use vertices::{FoundComponent, VertexDeclaration, read_declaration};
 
 // The numbers of a geometry's four records, and how many indices it holds.
-#[derive(Drop)]
+#[derive(Clone, Copy)]
 pub struct GeometryHead {
     pub shader: u16,
     pub index_count: u32,

@@ -14,7 +14,7 @@ use sections::u16_le;
 // What the records before `at` come to. `lowest` is the rank of the first check that failed, or PASSED. `units` is their part of the image, 16 bytes
 // each. The last model's record begins at `model`, and `first` geometries stand before it. `mapping` is where the entries of its mapping stand that no
 // geometry has answered yet, and `left` how many they are.
-#[derive(Drop)]
+#[derive(Clone, Copy)]
 pub struct Tally {
     pub at: usize,
     pub lowest: u8,
@@ -27,7 +27,7 @@ pub struct Tally {
     pub left: usize,
 }
 
-#[derive(Drop)]
+#[derive(Clone, Copy)]
 pub enum Turn {
     On(Tally),
     Stop,
@@ -126,7 +126,7 @@ fn one_less(n: usize) -> usize
 }
 
 // What a whole list comes to. `lowest` is the rank of the first check that fails, or PASSED; `units` leaves header and model pointers out.
-#[derive(Drop)]
+#[derive(Clone, Copy)]
 pub struct Summary {
     pub lowest: u8,
     pub models: usize,
@@ -135,7 +135,7 @@ pub struct Summary {
 }
 
 // A place that a pass has reached, behind `own` geometries of the last of `models` models, whose record begins at `model`.
-#[derive(Drop)]
+#[derive(Clone, Copy)]
 pub struct Mark {
     pub at: usize,
     pub models: usize,
@@ -144,7 +144,7 @@ pub struct Mark {
 }
 
 // What a whole list comes to, and the place of its pass that is nearest to a geometry of a model.
-#[derive(Drop)]
+#[derive(Clone, Copy)]
 pub struct Findings {
     pub summary: Summary,
     pub nearest: Mark,

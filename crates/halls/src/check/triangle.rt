@@ -6,7 +6,7 @@ ghost use Rattle.halls.specs.Inner.Counting.{one, indices_below, equal_pairs, co
 use crate::check::order::PASSED;
 
 // Three indices that follow each other.
-#[derive(Drop)]
+#[derive(Clone, Copy)]
 pub struct Triangle {
     pub a: u32,
     pub b: u32,

@@ -19,7 +19,7 @@ use sections::{bytes_of, resolve, u16_le, u64_le};
 use vertices::{FoundBuffer, VertexBuffer};
 
 // `lowest` is the rank of the first check that fails, or PASSED; `units` are their parts of the image, 16 bytes each; `length` the bytes of their records.
-#[derive(Drop)]
+#[derive(Clone, Copy)]
 pub struct Taken {
     pub lowest: u8,
     pub models: usize,

@@ -7,7 +7,7 @@ ghost use Rattle.halls.specs.Inner.Walk.{front_of};
 use sections::{ends_inside, u16_le, u32_le};
 
 // A model's record with the entries of its mapping, or a geometry's four records with its vertex bytes and the indices that it holds.
-#[derive(Drop)]
+#[derive(Clone, Copy)]
 pub enum Front {
     Model(usize),
     Geometry(usize, usize),
@@ -15,7 +15,7 @@ pub enum Front {
 }
 
 // Vertex bytes, and indices held.
-#[derive(Drop)]
+#[derive(Clone, Copy)]
 pub struct GeometryShape {
     pub content: usize,
     pub held: usize,

@@ -10,7 +10,7 @@ use crate::read::view::{geometry_view, view_length};
 use sections::{resolve, u16_le, u64_le};
 
 // `refusal` is 0 where nothing was refused.
-#[derive(Drop)]
+#[derive(Clone, Copy)]
 pub struct Measured {
     pub refusal: u8,
     pub length: u64,

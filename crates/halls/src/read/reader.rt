@@ -7,7 +7,7 @@ ghost use Rattle.halls.specs.Outcome.{answer_of, after};
 
 use crate::answer::Answer;
 
-#[derive(Drop)]
+#[derive(Clone, Copy)]
 pub struct ResReader<'a> {
     pub system: &'a [u8],
     pub graphics: &'a [u8],

@@ -9,20 +9,20 @@ use sections::{Located, locate, resolve, u16_le, u32_le, u64_le};
 use vertices::{FoundBuffer, StoredDeclaration, parse_vertex_buffer_at};
 
 // Where indices lie: `width` bytes each, 0 where the block has none.
-#[derive(Drop)]
+#[derive(Clone, Copy)]
 pub struct IndexView {
     pub count: u32,
     pub width: u8,
     pub place: Located,
 }
 
-#[derive(Drop)]
+#[derive(Clone, Copy)]
 pub enum FoundIndices {
     Indices(IndexView),
     Absent,
 }
 
-#[derive(Drop)]
+#[derive(Clone, Copy)]
 pub struct GeometryView {
     pub shader: u16,
     pub index_count: u32,

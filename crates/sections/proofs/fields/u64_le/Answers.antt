@@ -1,0 +1,14 @@
+-- Where the range test holds the bytes are all there, else the field is 0.
+use mathlib.Core.Path.{sym, ◌∙◌}
+use borrow.Author.Tests.{leb-true, leb-false}
+use Rattle.sections.proofs.LeLaws.{field_in, field_out}
+use Rattle.sections.proofs.fields.u64_le.Goals as goal
+
+pub u64_at-requires : goal.u64_at-requires
+u64_at-requires c = leb-true _ _ (sym c.ends_inside.ensures ∙ c.if-ends_inside.true)
+
+pub returns-then-ends_inside : goal.returns-then-ends_inside
+returns-then-ends_inside c = let h = leb-true _ _ (sym c.ends_inside.ensures ∙ c.if-ends_inside.true) in c.u64_at.ensures ∙ sym (field_in 8 _ _ h)
+
+pub returns : goal.returns
+returns c = sym (field_out 8 _ _ (leb-false _ _ (sym c.ends_inside.ensures ∙ c.if-ends_inside.false)))
