@@ -1,0 +1,13 @@
+-- `snorm_colour8` meets its contract: a NaN gives 0, any other bits go through the definition's two operations, in which an infinity stays one, and `colour_byte` takes every float.
+use Rattle.vertices.proofs.FloatNan.{not_nan-bits, nan_value}
+use Rattle.vertices.proofs.NormalisedColour.{colour_nan}
+use Rattle.vertices.proofs.normalised.snorm_colour8.Goals as goal
+
+pub returns-then-is_nan : goal.returns-then-is_nan
+returns-then-is_nan c = rw (nan_value c.args.bits (cc)) colour_nan
+
+pub float_from_bits-bits : goal.float_from_bits-bits
+float_from_bits-bits c = not_nan-bits c.args.bits (cc)
+
+pub returns : goal.returns
+returns c = c.colour_byte.ensures

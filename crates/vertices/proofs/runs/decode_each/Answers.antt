@@ -1,0 +1,20 @@
+-- `decode_each`: the floats of the halves passed stand in dst, one number a turn.
+use Prim.Native.Nat.{◌-◌}
+use native.Mathlib.Omega.{arith}
+use Rattle.vertices.specs.Half.{f16_to_f32}
+use Rattle.vertices.proofs.RunLoops.{Converting-start, Converting-one, Converting-end}
+use Rattle.vertices.proofs.runs.decode_each.Goals as goal
+
+pub loop-i-init : goal.loop-i-init
+loop-i-init c = Converting-start c.requires.1
+
+pub loop-i-preserved : goal.loop-i-preserved
+loop-i-preserved c =
+    let turn = c.loop-i in
+    Converting-one turn.invariant (omega arith) (cc (c.set_u32.ensures, c.f16_to_f32.ensures, c.u16_at.ensures))
+
+pub shape_of-dst : goal.shape_of-dst
+shape_of-dst c = c.loop-i.invariant.writing.same
+
+pub returns : goal.returns
+returns c = Converting-end c.loop-i.invariant (omega arith)

@@ -1,0 +1,20 @@
+-- `encode_each`: the halves of the floats passed stand in dst, one number a turn.
+use Prim.Native.Nat.{◌-◌}
+use native.Mathlib.Omega.{arith}
+use Rattle.vertices.specs.Half.{f32_to_f16}
+use Rattle.vertices.proofs.RunLoops.{Converting-start, Converting-one, Converting-end}
+use Rattle.vertices.proofs.runs.encode_each.Goals as goal
+
+pub loop-i-init : goal.loop-i-init
+loop-i-init c = Converting-start c.requires.1
+
+pub loop-i-preserved : goal.loop-i-preserved
+loop-i-preserved c =
+    let turn = c.loop-i in
+    Converting-one turn.invariant (omega arith) (cc (c.set_u16.ensures, c.f32_to_f16.ensures, c.u32_at.ensures))
+
+pub shape_of-dst : goal.shape_of-dst
+shape_of-dst c = c.loop-i.invariant.writing.same
+
+pub returns : goal.returns
+returns c = Converting-end c.loop-i.invariant (omega arith)
