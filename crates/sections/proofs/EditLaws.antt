@@ -25,9 +25,9 @@ module _ (s : List ℕ) where
   unfolding part
   part_length at n h = simp (length-take, length-drop) (omega arith)
 
-  pub part-get_d : (at n i : ℕ) → i < n → get_or (part s at n) i 0 ≡ get_or s (at + i) 0
+  pub part-get_or : (at n i : ℕ) → i < n → get_or (part s at n) i 0 ≡ get_or s (at + i) 0
   unfolding part
-  part-get_d at n i h = rw (get_or-take, get_or-drop)
+  part-get_or at n i h = rw (get_or-take, get_or-drop)
 
   -- one element
   pub part-one : (i : ℕ) → i < length s → part s i 1 ≡ get_or s i 0 ∷ []

@@ -136,10 +136,10 @@ map_below f a b z h [] g i = z
 map_below f a b z h (x ∷ xs) g zero = h x (g 0)
 map_below f a b z h (x ∷ xs) g (suc i) = map_below f a b z h xs (λ j. g (suc j)) i
 
-get_d-map-in : (f : ℕ → ℕ) (xs : List ℕ) (i : ℕ) → i < length xs → get_or (map f xs) i 0 ≡ f (get_or xs i 0)
-get_d-map-in f [] i h = absurd (omega arith)
-get_d-map-in f (x ∷ xs) zero h = refl
-get_d-map-in f (x ∷ xs) (suc i) h = get_d-map-in f xs i (omega arith)
+get_or-map-in : (f : ℕ → ℕ) (xs : List ℕ) (i : ℕ) → i < length xs → get_or (map f xs) i 0 ≡ f (get_or xs i 0)
+get_or-map-in f [] i h = absurd (omega arith)
+get_or-map-in f (x ∷ xs) zero h = refl
+get_or-map-in f (x ∷ xs) (suc i) h = get_or-map-in f xs i (omega arith)
 
 -- the i-th number of a run that was written
 pub run-read : (k : ℕ) (s : List ℕ) (at : ℕ) (xs : List ℕ) → ((i : ℕ) → get_or xs i 0 < 256 ^ k) → at + length xs * k ≤ length s
@@ -268,7 +268,7 @@ encoded-read t v s at shape w h =
     (λ i l.
     let j : i < length (numbers_of v) = rw (numbers-count v) l in
     let m : i < length ns = rw count j in
-    ap (loaded_as t) (run-read (width_of t) s at ns below fit i m ∙ get_d-map-in (stored_as t) (numbers_of v) i j))
+    ap (loaded_as t) (run-read (width_of t) s at ns below fit i m ∙ get_or-map-in (stored_as t) (numbers_of v) i j))
     ∙ sym (each-built (λ n. loaded_as t (stored_as t n)) v)
 
 -- ---- bit for bit

@@ -22,15 +22,15 @@ not_nan_below b h =
     let l : b % 2147483648 ≤ 2139095040 = omega arith in
     not_nan-bits b (nan_bits_above binary32 b ∙ le-ltb 2139095040 (b % 2147483648) l)
 
-is_nan : (x : Float) → T (is_nan x) → x ≡ nan
+nan_if_is_nan : (x : Float) → T (is_nan x) → x ≡ nan
 unfolding is_nan
-is_nan nan h = refl
-is_nan (inf s) h = absurd h
-is_nan (fin s m e) h = absurd h
+nan_if_is_nan nan h = refl
+nan_if_is_nan (inf s) h = absurd h
+nan_if_is_nan (fin s m e) h = absurd h
 
 -- a NaN's bits stand for the NaN
 pub nan_value : (b : ℕ) → nan_bits binary32 b ≡ true → of_bits binary32 b ≡ nan
-nan_value b h = is_nan (of_bits binary32 b) (rw (← nan_bits_is binary32 b, h) tt)
+nan_value b h = nan_if_is_nan (of_bits binary32 b) (rw (← nan_bits_is binary32 b, h) tt)
 
 -- an integer as a float is no NaN
 pub of_int_not_nan : (f : Format) (z : ℤ) → T (not (is_nan (of_int f z)))

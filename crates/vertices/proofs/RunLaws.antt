@@ -47,17 +47,18 @@ module _ (k : ℕ) where
   numbers-add (suc n) m s = rw (suc-add, numbers-add n m (drop k s), drop-drop (n * k) k s, suc-mul, add_comm (n * k) k)
 
   -- the i-th number, as a part of the bytes
-  pub numbers-get_d : (n i : ℕ) (s : List ℕ) → i < n → get_or (numbers k n s) i 0 ≡ le (part s (i * k) k)
+  pub numbers-get_or : (n i : ℕ) (s : List ℕ) → i < n → get_or (numbers k n s) i 0 ≡ le (part s (i * k) k)
   unfolding numbers part
-  numbers-get_d (suc n) zero s h = rw zero-mul
-  numbers-get_d (suc n) (suc i) s h = numbers-get_d n i (drop k s) (omega arith) ∙ rw (drop-drop (i * k) k s, suc-mul, add_comm (i * k) k)
+  numbers-get_or zero i s h = elim h [ ]
+  numbers-get_or (suc n) zero s h = rw zero-mul
+  numbers-get_or (suc n) (suc i) s h = numbers-get_or n i (drop k s) (omega arith) ∙ rw (drop-drop (i * k) k s, suc-mul, add_comm (i * k) k)
 
   -- the i-th number of a part is a field of the whole
   pub numbers-at : (n i : ℕ) (s : List ℕ) (at : ℕ) → i < n → at + n * k ≤ length s → get_or (numbers k n (part s at (n * k))) i 0 ≡ field k s (at + i * k)
   numbers-at n i s at h l =
       let m : suc i * k ≤ n * k = mul-le-mul_right k h in
       let e : i * k + k ≤ n * k = rw suc-mul at m in
-      numbers-get_d n i (part s at (n * k)) h ∙ ap le (part-part s at (n * k) (i * k) k e) ∙ sym (field_in k s (at + i * k) (omega arith))
+      numbers-get_or n i (part s at (n * k)) h ∙ ap le (part-part s at (n * k) (i * k) k e) ∙ sym (field_in k s (at + i * k) (omega arith))
 
   -- ---- inverse both ways
 

@@ -19,7 +19,7 @@ use Rattle.vertices.specs.Declaration.{declaration_at, found_component}
 use Rattle.vertices.specs.Runs.{numbers}
 use Rattle.vertices.specs.declared.declaration.FoundComponent.TheVariants.{Component, Missing}
 use Rattle.vertices.specs.declared.types.VertexComponent.{VertexComponent}
-use Rattle.vertices.proofs.RunLaws.{numbers-get_d, numbers-length}
+use Rattle.vertices.proofs.RunLaws.{numbers-get_or, numbers-length}
 use Rattle.halls.specs.Checks.{strides_agree, components_inside, vertex_counts_agree, index_counts_agree, indices_in_range, triangles_distinct, has_size}
 use Rattle.halls.specs.Hall.{FullGeometry}
 use Rattle.halls.specs.Fronts.{GeometryFront, front_geometry}
@@ -63,9 +63,9 @@ numbers-part k n s at m i h =
     let b : j < n = rw (numbers-length k n (drop i (part s at m))) at l in
     let q : suc j * k ≤ n * k = mul-le-mul_right k b in
     let e : j * k + k ≤ n * k = rw suc-mul at q in
-    numbers-get_d k n j (drop i (part s at m)) b
+    numbers-get_or k n j (drop i (part s at m)) b
     ∙ ap le (part-drop (part s at m) i (j * k) k ∙ part-part s at m (i + j * k) k (omega arith) ∙ rw (← add_assoc at i (j * k)) (sym (part-drop s (at + i) (j * k) k)))
-    ∙ sym (numbers-get_d k n j (drop (at + i) s) b))
+    ∙ sym (numbers-get_or k n j (drop (at + i) s) b))
 
 -- ---- the geometry at the front
 

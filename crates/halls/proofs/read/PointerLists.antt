@@ -9,7 +9,7 @@ use lib.ListN.{length, drop, get_or, get_or-eq_default}
 use Rattle.sections.specs.Le.{field}
 use Rattle.sections.proofs.LeLaws.{field_in, field_out}
 use Rattle.vertices.specs.Runs.{numbers}
-use Rattle.vertices.proofs.RunLaws.{numbers-get_d, numbers-length}
+use Rattle.vertices.proofs.RunLaws.{numbers-get_or, numbers-length}
 use Rattle.halls.specs.Reading.{first, rest}
 
 below_or : (i n : ℕ) → (i < n) ⊎ (n ≤ i)
@@ -33,6 +33,6 @@ rest-drop (suc i) (x ∷ xs) = rest-drop i xs
 -- the i-th of the whole numbers of k bytes in s, 0 behind the last
 pub number-field : (k n : ℕ) (s : List ℕ) (i : ℕ) → n * k ≤ length s → length s < n * k + k → get_or (numbers k n s) i 0 ≡ field k s (i * k)
 number-field k n s i h l = ⊎_elim
-    (λ (q : i < n). numbers-get_d k n i s q ∙ sym (field_in k s (i * k) (le_trans (in-run i n k q) h)))
+    (λ (q : i < n). numbers-get_or k n i s q ∙ sym (field_in k s (i * k) (le_trans (in-run i n k q) h)))
     (λ (q : n ≤ i). get_or-eq_default (numbers k n s) 0 {n = i} (rw numbers-length q) ∙ sym (field_out k s (i * k) (omega (arith, mul-le-mul_right k q))))
     (below_or i n)

@@ -1,6 +1,6 @@
 -- `attributes_at`: the items passed are the attributes of the components passed, all of them inside.
 use mathlib.Core.Path.{sym, ap, ◌∙◌}
-use Prim.Native.Nat.{◌-◌, ◌<◌}
+use Prim.Native.Nat.{◌<◌}
 use native.Mathlib.Omega.{arith}
 use lib.Seq.{get_or-take}
 use Rattle.vertices.specs.Attribute.{attributes_at}

@@ -9,13 +9,13 @@ use Rattle.vertices.proofs.attribute.read_vertex_attributes.Goals as goal
 pub overflow_mul-vertex_index : goal.overflow_mul-vertex_index
 overflow_mul-vertex_index c =
     let a = c.args in
-    let h : a.vertex-index * a.vertex-stride ≤ 4294967295 * 65535 = mul-le-mul {n₂ = 4294967295} {m₂ = 65535} (omega arith) (omega arith) in
+    let h : a.vertex_index * a.vertex_stride ≤ 4294967295 * 65535 = mul-le-mul {n₂ = 4294967295} {m₂ = 65535} (omega arith) (omega arith) in
     omega arith
 
 pub attributes_at-requires : goal.attributes_at-requires
 attributes_at-requires c =
     let a = c.args in
-    let h : a.vertex-index * a.vertex-stride ≤ 4294967295 * 65535 = mul-le-mul {n₂ = 4294967295} {m₂ = 65535} (omega arith) (omega arith) in
+    let h : a.vertex_index * a.vertex_stride ≤ 4294967295 * 65535 = mul-le-mul {n₂ = 4294967295} {m₂ = 65535} (omega arith) (omega arith) in
     omega arith
 
 pub returns-then-vertex_index-vertex_count : goal.returns-then-vertex_index-vertex_count

@@ -1,7 +1,5 @@
 -- `decode_unorm8`: the floats of the bytes passed stand in dst, one byte a turn.
-use Prim.Native.Nat.{◌-◌}
 use native.Mathlib.Omega.{arith}
-use Rattle.vertices.specs.Normalised.{unorm8_to_f32}
 use Rattle.vertices.proofs.ByteRunLaws.{byte-read}
 use Rattle.vertices.proofs.RunLoops.{Converting-start, Converting-end}
 use Rattle.vertices.proofs.byte_runs.decode_unorm8.Goals as goal

@@ -1,5 +1,4 @@
 -- `encode_unorm8`: the bytes of the floats passed stand in dst, one a turn.
-use Prim.Native.Nat.{◌-◌}
 use mathlib.Core.Path.{◌∙◌, ap}
 use native.Mathlib.Omega.{arith}
 use Rattle.vertices.specs.Normalised.{f32_to_unorm8}

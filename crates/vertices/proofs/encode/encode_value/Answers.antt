@@ -13,11 +13,10 @@ returns-then-not-ends_inside c =
     Edited-no (rw (shape, ← c.size_in_bytes-size.ensures) (sym c.ends_inside.ensures ∙ c.if-not-ends_inside.true))
 
 pub put_value-requires : goal.put_value-requires
-put_value-requires c =
-    (
-      sym c.has_shape.ensures ∙ c.if-not-has_shape.false,
-      rw (← c.size_in_bytes-size.ensures) (leb-true _ _ (sym c.ends_inside.ensures ∙ c.if-not-ends_inside.false)),
-    )
+put_value-requires c = (
+  sym c.has_shape.ensures ∙ c.if-not-has_shape.false,
+  rw (← c.size_in_bytes-size.ensures) (leb-true _ _ (sym c.ends_inside.ensures ∙ c.if-not-ends_inside.false)),
+)
 
 pub returns : goal.returns
 returns c =

@@ -9,28 +9,28 @@ use Rattle.vertices.proofs.EncodeLaws.{nothing_written, runs_join, shape_room, v
 use Rattle.vertices.proofs.encode.put_value.Goals as goal
 
 pub put_number-requires : goal.put_number-requires
-put_number-requires c = omega (arith, shape_room c.args.component-type c.in-One.is c.args.off (length c.args.buf.now) c.requires.0 c.requires.1)
+put_number-requires c = omega (arith, shape_room c.args.component_type c.in-One.is c.args.off (length c.args.buf.now) c.requires.0 c.requires.1)
 
 pub put_two-requires : goal.put_two-requires
-put_two-requires c = omega (arith, shape_room c.args.component-type c.in-Two.is c.args.off (length c.args.buf.now) c.requires.0 c.requires.1)
+put_two-requires c = omega (arith, shape_room c.args.component_type c.in-Two.is c.args.off (length c.args.buf.now) c.requires.0 c.requires.1)
 
 pub put_two-requires-in-Three : goal.put_two-requires-in-Three
-put_two-requires-in-Three c = omega (arith, shape_room c.args.component-type c.in-Three.is c.args.off (length c.args.buf.now) c.requires.0 c.requires.1)
+put_two-requires-in-Three c = omega (arith, shape_room c.args.component_type c.in-Three.is c.args.off (length c.args.buf.now) c.requires.0 c.requires.1)
 
 pub overflow_mul-width_of : goal.overflow_mul-width_of
-overflow_mul-width_of c = omega (arith, shape_room c.args.component-type c.in-Three.is c.args.off (length c.args.buf.now) c.requires.0 c.requires.1)
+overflow_mul-width_of c = omega (arith, shape_room c.args.component_type c.in-Three.is c.args.off (length c.args.buf.now) c.requires.0 c.requires.1)
 
 pub overflow_add-off : goal.overflow_add-off
-overflow_add-off c = omega (arith, shape_room c.args.component-type c.in-Three.is c.args.off (length c.args.buf.now) c.requires.0 c.requires.1)
+overflow_add-off c = omega (arith, shape_room c.args.component_type c.in-Three.is c.args.off (length c.args.buf.now) c.requires.0 c.requires.1)
 
 pub put_number-requires-in-Three : goal.put_number-requires-in-Three
-put_number-requires-in-Three c = omega (arith, shape_room c.args.component-type c.in-Three.is c.args.off (length c.args.buf.now) c.requires.0 c.requires.1)
+put_number-requires-in-Three c = omega (arith, shape_room c.args.component_type c.in-Three.is c.args.off (length c.args.buf.now) c.requires.0 c.requires.1)
 
 pub put_four-requires : goal.put_four-requires
-put_four-requires c = omega (arith, shape_room c.args.component-type c.in-Four.is c.args.off (length c.args.buf.now) c.requires.0 c.requires.1)
+put_four-requires c = omega (arith, shape_room c.args.component_type c.in-Four.is c.args.off (length c.args.buf.now) c.requires.0 c.requires.1)
 
 pub put_four-requires-in-Bytes : goal.put_four-requires-in-Bytes
-put_four-requires-in-Bytes c = omega (arith, shape_room c.args.component-type c.in-Bytes.is c.args.off (length c.args.buf.now) c.requires.0 c.requires.1)
+put_four-requires-in-Bytes c = omega (arith, shape_room c.args.component_type c.in-Bytes.is c.args.off (length c.args.buf.now) c.requires.0 c.requires.1)
 
 pub returns-in-One : goal.returns-in-One
 returns-in-One c = value_written _ c.in-One.is _ _ (c.put_number.ensures ∙ ap (overwrite _ _) (sym (run-one _ _)))
@@ -43,7 +43,7 @@ returns-in-Three c =
     let behind = rw c.width_of.ensures at c.put_number-in-Three.ensures in
     value_written _ c.in-Three.is _ _
     (runs_join _ c.args.buf.now c.args.off 2 (_ ∷ _ ∷ []) (_ ∷ []) refl c.put_two-in-Three.ensures (behind ∙ ap (overwrite _ _) (sym (run-one _ _)))
-    (omega (arith, shape_room c.args.component-type c.in-Three.is c.args.off (length c.args.buf.now) c.requires.0 c.requires.1)))
+    (omega (arith, shape_room c.args.component_type c.in-Three.is c.args.off (length c.args.buf.now) c.requires.0 c.requires.1)))
 
 pub returns-in-Four : goal.returns-in-Four
 returns-in-Four c = value_written _ c.in-Four.is _ _ c.put_four.ensures

@@ -8,10 +8,6 @@ use Rattle.vertices.proofs.HalfDecode.{decoded-fits}
 use Rattle.vertices.proofs.HalfLift.{lift, moved}
 use Rattle.vertices.proofs.halves.float_below_sign.Goals as goal
 
-joined : (c : tie.After-all-ones)
-    → to_bits binary32 (add binary32 (moved c.before.before.args.rest) c.before.not-above-zero.result) + c.all_ones.result ≡ decoded c.before.before.args.rest
-joined c = rw (c.all_ones.ensures, c.before.not-above-zero.ensures) (lift c.before.before.args.rest c.before.before.requires).bits
-
 pub float_from_bits-moved : goal.float_from_bits-moved
 float_from_bits-moved c = (lift c.args.rest c.requires).real
 
@@ -19,7 +15,9 @@ pub float_to_bits-result : goal.float_to_bits-result
 float_to_bits-result c = rw c.not_above_zero.ensures (lift c.args.rest c.requires).number
 
 pub overflow_add-result : goal.overflow_add-result
-overflow_add-result c = omega (arith, joined c, decoded-fits c.args.rest c.requires)
+overflow_add-result c =
+    let joined : to_bits binary32 (add binary32 (moved c.args.rest) c.not_above_zero.result) + c.all_ones.result ≡ decoded c.args.rest = rw (c.all_ones.ensures, c.not_above_zero.ensures) (lift c.args.rest c.requires).bits in
+    omega (arith, joined, decoded-fits c.args.rest c.requires)
 
 pub returns : goal.returns
 returns c = rw (c.all_ones.ensures, c.not_above_zero.ensures) (lift c.args.rest c.requires).bits

@@ -1,4 +1,5 @@
 -- `snorm8_to_f32` meets its contract: what it computes was computed for each byte.
+use lib.Ieee.{nan_bits}
 use native.Mathlib.Omega.{arith}
 use Rattle.vertices.proofs.NormalisedProduct.{snorm-products}
 use Rattle.vertices.proofs.normalised.snorm8_to_f32.Goals as goal
@@ -7,6 +8,7 @@ pub int_to_float-signed : goal.int_to_float-signed
 int_to_float-signed c = (snorm-products c.args.value (omega arith)).exact
 
 pub float_from_bits-at_least_minus_one : goal.float_from_bits-at_least_minus_one
+unfolding nan_bits
 float_from_bits-at_least_minus_one c = tt
 
 pub float_to_bits-result : goal.float_to_bits-result

@@ -1,7 +1,5 @@
 -- `decode_block`: the floats of the halves passed stand in the array, one a turn.
-use Prim.Native.Nat.{◌-◌}
 use native.Mathlib.Omega.{arith}
-use Rattle.vertices.specs.Half.{f16_to_f32}
 use Rattle.vertices.proofs.RunLoops.{Filling-start, Filling-one, Filling-end}
 use Rattle.vertices.proofs.runs.decode_block.Goals as goal
 

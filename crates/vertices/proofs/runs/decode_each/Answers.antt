@@ -1,7 +1,5 @@
 -- `decode_each`: the floats of the halves passed stand in dst, one number a turn.
-use Prim.Native.Nat.{◌-◌}
 use native.Mathlib.Omega.{arith}
-use Rattle.vertices.specs.Half.{f16_to_f32}
 use Rattle.vertices.proofs.RunLoops.{Converting-start, Converting-one, Converting-end}
 use Rattle.vertices.proofs.runs.decode_each.Goals as goal
 

@@ -1,7 +1,5 @@
 -- `encode_each`: the halves of the floats passed stand in dst, one number a turn.
-use Prim.Native.Nat.{◌-◌}
 use native.Mathlib.Omega.{arith}
-use Rattle.vertices.specs.Half.{f32_to_f16}
 use Rattle.vertices.proofs.RunLoops.{Converting-start, Converting-one, Converting-end}
 use Rattle.vertices.proofs.runs.encode_each.Goals as goal
 

@@ -1,5 +1,4 @@
 -- `encode_run`: a block a turn, and then all that are left.
-use Prim.Native.Nat.{◌-◌}
 use native.Mathlib.Omega.{arith}
 use Rattle.vertices.proofs.RunLoops.{Converting-start, run-turn, run-last}
 use Rattle.vertices.proofs.runs.encode_run.Goals as goal

@@ -1,5 +1,4 @@
 -- `encode_small`: the halves of the floats passed stand in dst, one a turn.
-use Prim.Native.Nat.{◌-◌}
 use native.Mathlib.Omega.{arith}
 use Rattle.vertices.proofs.RunLoops.{Converting-start, Converting-one, Converting-end}
 use Rattle.vertices.proofs.runs.encode_small.Goals as goal

@@ -1,5 +1,5 @@
 -- `large_floats`: where the answer is 0, so it was after each number passed.
-use Prim.Native.Nat.{◌-◌, ◌+◌, ◌*◌, ◌%◌, ◌<◌}
+use Prim.Native.Nat.{◌+◌, ◌*◌, ◌%◌, ◌<◌}
 use native.Mathlib.Nat.{lt_of_le_of_lt}
 use native.Mathlib.Omega.{arith}
 use borrow.Author.Count.{below_more}
@@ -20,4 +20,4 @@ loop-i-preserved c =
     )
 
 pub returns : goal.returns
-returns c = record { each = λ j h. c.loop-i.invariant.1 j (omega arith) l }
+returns c = λ l. record { each = λ j h. c.loop-i.invariant.1 j (omega arith) l }

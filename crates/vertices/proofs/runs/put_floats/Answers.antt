@@ -1,5 +1,4 @@
 -- `put_floats`: the floats passed stand in dst, one a turn.
-use Prim.Native.Nat.{◌-◌}
 use native.Mathlib.Omega.{arith}
 use Rattle.vertices.proofs.RunLoops.{Putting-start, Putting-one, Putting-end}
 use Rattle.vertices.proofs.runs.put_floats.Goals as goal

@@ -1,6 +1,5 @@
 -- One word a turn in the first block; in a later one it stands already.
 use mathlib.Core.Path.{◌≡◌, refl}
-use Prim.Native.Nat.{◌-◌}
 use native.Mathlib.Omega.{arith}
 use Rattle.sections.proofs.LeLaws.{length-bytes}
 use Rattle.vertices.proofs.LaneLoops.{Words-nothing, Words-start, Words-turn}

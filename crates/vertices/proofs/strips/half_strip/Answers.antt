@@ -1,6 +1,5 @@
 -- One word a turn: a half as a float.
 use mathlib.Core.Path.{◌≡◌}
-use Prim.Native.Nat.{◌-◌}
 use native.Mathlib.Omega.{arith}
 use Rattle.sections.proofs.LeLaws.{length-bytes}
 use Rattle.vertices.specs.Inner.Lanes.{lane_bytes}

@@ -5,7 +5,7 @@ use Rattle.vertices.specs.declared.lane.Lane.TheVariants.{Raw}
 use Rattle.vertices.proofs.strips.raw_strip.Given as goal
 
 abbrev pub invariant-loop-i : goal.invariant-loop-i
-invariant-loop-i l = (l.i ≤ l.strip.end) × WordsWritten (λ (k : ℕ). lane_bytes (Raw l.off) «data» (k * l.stride)) l.strip.first l.i l.strip.word l.initial.out l.out
+invariant-loop-i l = (l.i ≤ l.strip.end) × WordsWritten (λ (k : ℕ). lane_bytes (Raw l.off) l.data (k * l.stride)) l.strip.first l.i l.strip.word l.initial.out l.out
 
 abbrev pub decreases-loop-i : goal.decreases-loop-i
 decreases-loop-i l = l.strip.end - l.i

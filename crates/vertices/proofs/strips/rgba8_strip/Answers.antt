@@ -1,6 +1,5 @@
 -- One word a turn: a colour.
 use mathlib.Core.Path.{◌≡◌}
-use Prim.Native.Nat.{◌-◌}
 use native.Mathlib.Omega.{arith}
 use Rattle.vertices.proofs.RunLaws.{length_run}
 use Rattle.vertices.specs.Inner.Lanes.{lane_bytes}

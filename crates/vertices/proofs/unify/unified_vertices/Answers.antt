@@ -20,4 +20,4 @@ pub returns : goal.returns
 returns c =
     let inside = sym c.vertices_inside.ensures ∙ c.if-not-vertices_inside.false in
     let written = rw c.plan_of.ensures at c.unify_all.ensures in
-    Unified-written inside c.if-out-count.false (rw (planned-run c.args.declaration c.args.«data».now c.args.vertex-stride c.args.vertex_count_lem) at written)
+    Unified-written inside c.if-out-count.false (rw (planned-run c.args.declaration c.args.«data».now c.args.vertex_stride c.args.vertex_count) at written)

@@ -1,5 +1,4 @@
 -- One block a turn, begun as a copy of the first.
-use Prim.Native.Nat.{◌-◌}
 use native.Mathlib.Omega.{arith}
 use Rattle.vertices.proofs.LaneBlocks.{Vertices-start, Vertices-end, BlockReady_lem, Vertices-turn}
 use Rattle.vertices.proofs.unify.unify_all.Goals as goal

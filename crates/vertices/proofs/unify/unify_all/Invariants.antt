@@ -4,7 +4,7 @@ use Rattle.vertices.proofs.LaneBlocks.{VerticesWritten}
 use Rattle.vertices.proofs.unify.unify_all.Given as goal
 
 abbrev pub invariant-loop-i : goal.invariant-loop-i
-invariant-loop-i l = VerticesWritten l.plan «data» l.stride l.count l.initial.out l.i l.out
+invariant-loop-i l = VerticesWritten l.plan l.data l.stride l.count l.initial.out l.i l.out
 
 abbrev pub decreases-loop-i : goal.decreases-loop-i
 decreases-loop-i l = l.count - l.i

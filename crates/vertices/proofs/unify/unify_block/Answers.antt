@@ -1,6 +1,5 @@
 -- One lane a turn.
 use mathlib.Core.Path.{◌≡◌}
-use Prim.Native.Nat.{◌-◌}
 use native.Mathlib.Omega.{arith}
 use Rattle.vertices.proofs.LaneBlocks.{block_start, Block-turn, LaneReady_lem}
 use Rattle.vertices.proofs.unify.unify_block.Goals as goal

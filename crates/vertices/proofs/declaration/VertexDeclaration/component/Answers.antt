@@ -1,10 +1,10 @@
 -- From each place on, the walk finds what it finds from the start.
-use mathlib.Core.Logic.{⊎_elim}
-use Prim.Native.Nat.{◌-◌, ◌%◌}
+use Prim.Native.Nat.{◌%◌}
 use native.Mathlib.Omega.{arith}
 use Rattle.vertices.specs.Declaration.{component_of, components_of}
 use Rattle.vertices.proofs.ComponentWalk.{component_small, Searching-clear, Searching-end, Searching-hit, Searching-set, Searching-start}
 use Rattle.vertices.proofs.declaration.VertexDeclaration.component.Goals as goal
+use Rattle.vertices.proofs.declaration.VertexDeclaration.component.Goals.{then-flags-eq1+else-at-index, else-flags-eq1}
 
 pub loop-at-init : goal.loop-at-init
 loop-at-init c = Searching-start _ _ _
@@ -23,10 +23,7 @@ overflow_add-offset c = omega (arith, component_small (c.loop-at.types % 16) c.c
 
 pub loop-at-preserved : goal.loop-at-preserved
 loop-at-preserved c =
-    ⊎_elim
-    (λ w. Searching-set c.loop-at.invariant c.loop-at-test.true w.0.taken w.1.ensures w.2.left w.4)
-    (λ w. Searching-clear c.loop-at.invariant c.loop-at-test.true w.0.left w.1)
-    c.if-flags-eq1.branch
+    elim c.if-flags-eq1.branch [ then-flags-eq1+else-at-index w ↦ Searching-set c.loop-at.invariant c.loop-at-test.true w.if-flags-eq1.true w.component_at-component.ensures w.if-at-index.false w.offset-is | else-flags-eq1 w ↦ Searching-clear c.loop-at.invariant c.loop-at-test.true w.if-flags-eq1.false w.offset-is ]
 
 pub returns : goal.returns
 unfolding component_of components_of

@@ -1,11 +1,10 @@
 -- The sizes added up and those of the components still to come are the total.
-use mathlib.Core.Logic.{⊎_elim}
 use mathlib.Core.Path.{◌∙◌}
-use Prim.Native.Nat.{◌-◌}
 use native.Mathlib.Omega.{arith}
 use Rattle.vertices.specs.Declaration.{components_of, total_size}
 use Rattle.vertices.proofs.ComponentWalk.{Summing-clear, Summing-end, summing_set, summing_start}
 use Rattle.vertices.proofs.declaration.VertexDeclaration.size_in_bytes.Goals as goal
+use Rattle.vertices.proofs.declaration.VertexDeclaration.size_in_bytes.Goals.{then-flags-eq1, else-flags-eq1}
 
 pub loop-index-init : goal.loop-index-init
 loop-index-init c = summing_start _ _
@@ -17,7 +16,7 @@ pub loop-index-preserved : goal.loop-index-preserved
 loop-index-preserved c =
     let inv = c.loop-index.invariant in
     let low = c.loop-index-test.true in
-    ⊎_elim (λ w. summing_set inv low w.0.taken (w.3 ∙ rw (w.2.ensures, w.1.ensures))) (λ w. Summing-clear inv low w.0.left w.1) c.if-flags-eq1.branch
+    elim c.if-flags-eq1.branch [ then-flags-eq1 w ↦ summing_set inv low w.if-flags-eq1.true (w.total-is ∙ rw (w.size_in_bytes.ensures, w.from_nibble-component_type.ensures)) | else-flags-eq1 w ↦ Summing-clear inv low w.if-flags-eq1.false w.total-is ]
 
 pub returns : goal.returns
 unfolding total_size components_of

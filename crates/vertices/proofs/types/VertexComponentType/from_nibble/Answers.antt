@@ -1,5 +1,6 @@
 -- Each arm is an entry of the table; from 11 on there is none.
-use Rattle.vertices.proofs.TypeLaws.{beyond, named_type, unknown_type}
+use Rattle.std.proofs.Common.{◌≤◌, arith}
+use Rattle.vertices.proofs.TypeLaws.{named_type, unknown_type}
 use Rattle.vertices.proofs.types.VertexComponentType.from_nibble.Goals as goal
 
 pub returns-in-0 : goal.returns-in-0
@@ -36,7 +37,7 @@ pub returns-in-10 : goal.returns-in-10
 returns-in-10 c = rw (c.in-10.is, named_type)
 
 pub returns-in-11-to-15 : goal.returns-in-11-to-15
-returns-in-11-to-15 c = rw (unknown_type _ (beyond 11 _ ?{c.before.match.rest}))
+returns-in-11-to-15 c = let h : 11 ≤ c.args.value = omega arith in rw (unknown_type _ h)
 
 pub returns-in_default : goal.returns-in_default
-returns-in_default c = rw (unknown_type _ (beyond 11 _ ?{c.before.match.rest}))
+returns-in_default c = let h : 11 ≤ c.args.value = omega arith in rw (unknown_type _ h)

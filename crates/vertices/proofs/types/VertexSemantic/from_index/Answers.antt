@@ -1,5 +1,6 @@
 -- Each arm is an entry of the table; from 16 on there is none.
-use Rattle.vertices.proofs.TypeLaws.{beyond, named_semantic, unknown_semantic}
+use Rattle.std.proofs.Common.{◌≤◌, arith}
+use Rattle.vertices.proofs.TypeLaws.{named_semantic, unknown_semantic}
 use Rattle.vertices.proofs.types.VertexSemantic.from_index.Goals as goal
 
 pub returns-in-0 : goal.returns-in-0
@@ -51,4 +52,4 @@ pub returns-in-15 : goal.returns-in-15
 returns-in-15 c = rw (c.in-15.is, named_semantic)
 
 pub returns-in_default : goal.returns-in_default
-returns-in_default c = rw (unknown_semantic _ (beyond 16 _ ?{c.match.rest}))
+returns-in_default c = let h : 16 ≤ c.args.index = omega arith in rw (unknown_semantic _ h)

@@ -1,8 +1,0 @@
--- `from_zero`: the contract makes the code's own choice.
-use Rattle.vertices.proofs.normalised.from_zero.Goals as goal
-
-pub returns-then-x : goal.returns-then-x
-returns-then-x c = rw c.if-x.true
-
-pub returns : goal.returns
-returns c = rw c.if-x.false
