@@ -1,6 +1,6 @@
 -- What a walk adds up is what the verdict asks: the first check that fails anywhere, as the lowest rank, the counts, and the image's size.
 use mathlib.Core.Path.{◌≡◌, refl, sym, ap, ◌∙◌}
-use mathlib.Core.Bool.{Bool, true, false, cond, ◌&&◌, and_true}
+use mathlib.Core.Bool.{Bool, true, false, cond, ◌&&◌, and-true}
 use mathlib.Core.List.{List, [], ◌∷◌}
 use Prim.{Unit}
 use Prim.Native.Nat.{ℕ, suc, ◌+◌, ◌*◌, ◌-◌, ◌/◌, ◌≤◌, ◌<◌, min}
@@ -147,7 +147,7 @@ module _ (h : Hall) where
   lowest-all =
       together (every mapping_matches h) true (every_geometry strides_agree h) (every_geometry components_inside h) (every_geometry vertex_counts_agree h) (every_geometry index_counts_agree h) (every_geometry indices_in_range h) (every_geometry triangles_distinct h) true
       true (counts_within_limits h) true true true true true true (image_within_limit h)
-      ∙ rw (and_true (every mapping_matches h), and_true (every_geometry strides_agree h), and_true (every_geometry components_inside h), and_true (every_geometry vertex_counts_agree h), and_true (every_geometry index_counts_agree h), and_true (every_geometry indices_in_range h), and_true (every_geometry triangles_distinct h))
+      ∙ rw (and-true (every mapping_matches h), and-true (every_geometry strides_agree h), and-true (every_geometry components_inside h), and-true (every_geometry vertex_counts_agree h), and-true (every_geometry index_counts_agree h), and-true (every_geometry indices_in_range h), and-true (every_geometry triangles_distinct h))
 
   pub verdict-lowest : every_geometry vertex_bytes_exact h ≡ true → verdict_of (min (lowest_of_models h) (cond (counts_within_limits h) (failing too_large (image_within_limit h)) 13)) ≡ verdict h
   unfolding verdict

@@ -1,6 +1,6 @@
 -- The records that some bytes begin with: what a model or a geometry at the front says of them, and that nothing else is a hall's.
 use mathlib.Core.Path.{◌≡◌, refl, sym, ap, ◌∙◌, subst}
-use mathlib.Core.Bool.{Bool, true, false, cond, ◌&&◌, and_false}
+use mathlib.Core.Bool.{Bool, true, false, cond, ◌&&◌, and-false}
 use mathlib.Core.List.{List, [], ◌∷◌}
 use mathlib.Core.Logic.{◌⊎◌, ⊎_elim}
 use Prim.Native.Nat.{ℕ, ◌+◌, ◌*◌, ◌-◌, ◌/◌, ◌≤◌, ◌<◌}
@@ -61,7 +61,7 @@ module _ (s : List ℕ) (at kind n : ℕ) where
 
   pub Record-differs : {found : ℕ} → found ≡ field 4 s at → (found ≡ n → ⊥) → false ≡ has_record s at kind n
   unfolding has_record
-  Record-differs e f = rw (ne_eqb (field 4 s at) n (λ h. f (e ∙ h))) (sym (and_false (fits s at (6 + n))))
+  Record-differs e f = rw (ne_eqb (field 4 s at) n (λ h. f (e ∙ h))) (sym (and-false (fits s at (6 + n))))
 
   pub Record-kind : {found : ℕ} → leb (at + (6 + n)) (length s) ≡ true → field 4 s at ≡ n → found ≡ field 2 s (at + 4) → eqb found kind ≡ has_record s at kind n
   unfolding has_record
@@ -189,14 +189,14 @@ module _ (s : List ℕ) where
 
   pub geometry-third : has_record s 20 3 16 ≡ false → false ≡ has_geometry s
   unfolding has_geometry
-  geometry-third h = rw h (sym (and_false (has_record s 0 2 14)))
+  geometry-third h = rw h (sym (and-false (has_record s 0 2 14)))
 
   module _ {r : GeometryShape} (q : Shaped s r) where
     pub geometry-fourth : has_record s 42 4 (7 + r.content) ≡ false → false ≡ has_geometry s
     unfolding has_geometry
     geometry-fourth h =
         let k : has_record s 42 4 (7 + content_at s) ≡ false = rw (← q.content-is) h in
-        rw (k, and_false (has_record s 20 3 16)) (sym (and_false (has_record s 0 2 14)))
+        rw (k, and-false (has_record s 20 3 16)) (sym (and-false (has_record s 0 2 14)))
 
     -- the last one decides
     pub geometry-fifth : {t : Bool} → has_record s 0 2 14 ≡ true → has_record s 20 3 16 ≡ true → has_record s 42 4 (7 + r.content) ≡ true

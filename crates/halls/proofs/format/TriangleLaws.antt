@@ -150,7 +150,7 @@ Indices-counted (some i) h rest n f b =
     let body : List ℕ = bytes 4 i.count ++ run 4 i.items in
     let l : length body ≡ 4 + length i.items * 4 = simp (length-append, length-bytes, length_run) in
     let held : held_count body ≡ length i.items = omega arith in
-    let third : (b : Bool) → cond b (held_count body / 3) 0 ≡ cond b (held_by (some i)) 0 / 3 = λ b. elim b [ true ↦ rw held | false ↦ omega arith ] in
+    let third : (d : Bool) → cond d (held_count body / 3) 0 ≡ cond d (held_by (some i)) 0 / 3 = λ d. elim d as (λ (v : Bool). cond v (held_count body / 3) 0 ≡ cond v (held_by (some i)) 0 / 3) [ true ↦ rw held | false ↦ omega arith ] in
     written 5 body h (omega arith) rest b ∙ rw (added-indices b 5 body refl, awaits-indices b 5 body refl, f false, third b)
 
 -- a count that is stored, or else the indices held

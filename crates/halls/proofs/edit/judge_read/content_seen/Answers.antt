@@ -1,0 +1,17 @@
+-- A count and a stride multiply to less than 2^48.
+use Prim.Native.Nat.{◌*◌, ◌≤◌}
+use native.Mathlib.Nat.{mul-le-mul}
+use native.Mathlib.Omega.{arith}
+use Rattle.halls.proofs.edit.judge_read.content_seen.Goals as goal
+
+pub overflow_mul-result : goal.overflow_mul-result
+overflow_mul-result c =
+    let b = c.in-Buffer.b in
+    let h : b.vertex_count * b.vertex_stride ≤ 4294967295 * 65535 = mul-le-mul {n₂ = 4294967295} {m₂ = 65535} (omega arith) (omega arith) in
+    omega arith
+
+pub returns-in-Buffer : goal.returns-in-Buffer
+returns-in-Buffer c =
+    let b = c.in-Buffer.b in
+    let h : b.vertex_count * b.vertex_stride ≤ 4294967295 * 65535 = mul-le-mul {n₂ = 4294967295} {m₂ = 65535} (omega arith) (omega arith) in
+    (rw c.in-Buffer.is, omega arith)

@@ -1,0 +1,45 @@
+-- A component of size 0 refuses by 22 and a value of another shape by 23; else the value's bytes go over the component's, which are inside the vertex bytes.
+use borrow.Author.Rules.{rules}
+use mathlib.Core.Path.{refl, sym, ◌∙◌}
+use Prim.Native.Nat.{◌+◌, ◌*◌, ◌≤◌}
+use native.Mathlib.Omega.{arith}
+use Rattle.halls.proofs.edit.AttributeSet.{set-no-size, set-no_shape, set_room, set-done}
+use Rattle.halls.proofs.check.SpotLaws.{Spot, spot, Spot-inside}
+use Rattle.halls.proofs.edit.StepLaws.{old, answered}
+use Rattle.halls.proofs.edit.set_attribute.set_component.Goals as goal
+
+pub returns-then-component-eq0 : goal.returns-then-component-eq0
+returns-then-component-eq0 c = let here : let a = c.args in Spot a.hall.now a.n a.model a.geometry a.at = spot (old _ _ (λ i. search rules) c.requires.0) _ _ _ c.requires.1 in
+    answered c.refused.ensures (set-no-size _ _ _ _ _ _ _ here c.requires.2 _ c.requires.3 c.if-component-eq0.true)
+
+pub returns-then-not-has_shape : goal.returns-then-not-has_shape
+returns-then-not-has_shape c = let here : let a = c.args in Spot a.hall.now a.n a.model a.geometry a.at = spot (old _ _ (λ i. search rules) c.requires.0) _ _ _ c.requires.1 in
+    answered c.refused-then-not-has_shape.ensures (set-no_shape _ _ _ _ _ _ _ here c.requires.2 _ c.requires.3 c.if-component-eq0.false c.has_shape.ensures (c.if-not-has_shape.true))
+
+pub overflow_add-at : goal.overflow_add-at
+overflow_add-at c = let here : let a = c.args in Spot a.hall.now a.n a.model a.geometry a.at = spot (old _ _ (λ i. search rules) c.requires.0) _ _ _ c.requires.1 in
+    omega (arith, Spot-inside here)
+
+pub overflow_add-place : goal.overflow_add-place
+overflow_add-place c = let here : let a = c.args in Spot a.hall.now a.n a.model a.geometry a.at = spot (old _ _ (λ i. search rules) c.requires.0) _ _ _ c.requires.1 in
+    let room : let a = c.args in a.at + 55 + a.vertex * c.u16_le-stride.result + a.component.offset + a.component.size ≤ a.n = set_room _ _ _ _ _ _ c.args.value here c.requires.2 _ c.requires.3 c.u16_le-stride.ensures in
+    omega (arith, room)
+
+pub overflow_mul-place : goal.overflow_mul-place
+overflow_mul-place c = let here : let a = c.args in Spot a.hall.now a.n a.model a.geometry a.at = spot (old _ _ (λ i. search rules) c.requires.0) _ _ _ c.requires.1 in
+    let room : let a = c.args in a.at + 55 + a.vertex * c.u16_le-stride.result + a.component.offset + a.component.size ≤ a.n = set_room _ _ _ _ _ _ c.args.value here c.requires.2 _ c.requires.3 c.u16_le-stride.ensures in
+    omega (arith, room)
+
+pub overflow_add-place-2 : goal.overflow_add-place-2
+overflow_add-place-2 c = let here : let a = c.args in Spot a.hall.now a.n a.model a.geometry a.at = spot (old _ _ (λ i. search rules) c.requires.0) _ _ _ c.requires.1 in
+    let room : let a = c.args in a.at + 55 + a.vertex * c.u16_le-stride.result + a.component.offset + a.component.size ≤ a.n = set_room _ _ _ _ _ _ c.args.value here c.requires.2 _ c.requires.3 c.u16_le-stride.ensures in
+    omega (arith, room)
+
+pub overflow_add-place-3 : goal.overflow_add-place-3
+overflow_add-place-3 c = let here : let a = c.args in Spot a.hall.now a.n a.model a.geometry a.at = spot (old _ _ (λ i. search rules) c.requires.0) _ _ _ c.requires.1 in
+    let room : let a = c.args in a.at + 55 + a.vertex * c.u16_le-stride.result + a.component.offset + a.component.size ≤ a.n = set_room _ _ _ _ _ _ c.args.value here c.requires.2 _ c.requires.3 c.u16_le-stride.ensures in
+    omega (arith, room)
+
+pub returns : goal.returns
+returns c = let here : let a = c.args in Spot a.hall.now a.n a.model a.geometry a.at = spot (old _ _ (λ i. search rules) c.requires.0) _ _ _ c.requires.1 in
+    set-done _ _ _ _ _ _ _ here c.requires.2 _ c.requires.3 c.if-component-eq0.false (sym c.has_shape.ensures ∙ c.if-not-has_shape.false) c.u16_le-stride.ensures refl c.encode_value.ensures

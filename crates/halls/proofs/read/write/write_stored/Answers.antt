@@ -1,0 +1,19 @@
+-- The record, or nothing.
+use mathlib.Core.Path.{◌≡◌, sym, ◌∙◌}
+use native.Mathlib.Omega.{arith}
+use Rattle.sections.proofs.EditLaws.{overwrite-none}
+use Rattle.halls.specs.Inner.View.{declaration_length}
+use Rattle.halls.proofs.read.write.write_stored.Goals as goal
+
+pub put_declaration-requires : goal.put_declaration-requires
+put_declaration-requires c =
+    let long : declaration_length c.args.declaration ≡ 22 = rw c.in-Declaration.is in
+    omega (arith, c.requires)
+
+pub returns-in-Declaration : goal.returns-in-Declaration
+returns-in-Declaration c =
+    let told = c.in-Declaration.is in
+    (rw told, c.put_declaration.ensures ∙ rw told)
+
+pub returns-in-Absent : goal.returns-in-Absent
+returns-in-Absent c = (rw c.in-Absent.is (omega arith), rw c.in-Absent.is (sym (overwrite-none c.args.out.now c.args.at)))
