@@ -124,10 +124,10 @@ held_start first = record { shows = record { long = refl; bytes = refl }; reache
 pub run-agrees : {first b : List ℕ} {n greatest : ℕ} {s : State} → Held first b n greatest s → (xs : List Made) → Ran b n xs → Agrees first b n greatest s xs
 unfolding Ran Agrees
 run-agrees h [] r = h.shows
-run-agrees h (x ∷ xs) r = (
+run-agrees {first = first} {b = b} {n = n} {greatest = greatest} {s = s} h (x ∷ xs) r = (
   h.shows,
   r.1.answer ∙ ap step_answer (step_in_lem h x.call ∙ sym (step_is h x.call)),
-  run-agrees (held_next h x r.0 r.1) xs r.2,
+  run-agrees {b = x.left} {n = next_n n x.answer} {greatest = max greatest (next_n n x.answer)} {s = state_after_step s (step x.call (length first) s)} (held_next h x r.0 r.1) xs r.2,
 )
 
 -- what holds at its end
@@ -139,4 +139,5 @@ pub run-ended : {first b : List ℕ} {n greatest : ℕ} {s : State} → Held fir
     → Ended first (buffer_after b xs) (n_after n xs) (state_after (length first) s xs)
 unfolding Ran buffer_after n_after state_after
 run-ended {greatest = greatest} h [] r = record { greatest = greatest; held = h }
-run-ended h (x ∷ xs) r = run-ended (held_next h x r.0 r.1) xs r.2
+run-ended {first = first} {b = b} {n = n} {greatest = greatest} {s = s} h (x ∷ xs) r =
+    run-ended {b = x.left} {n = next_n n x.answer} {greatest = max greatest (next_n n x.answer)} {s = state_after_step s (step x.call (length first) s)} (held_next h x r.0 r.1) xs r.2

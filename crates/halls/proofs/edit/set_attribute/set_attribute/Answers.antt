@@ -1,4 +1,5 @@
 -- A check that fails on the old hall refuses, and so does the lack of the geometry, by 21; one that is found is handed on with its place.
+use borrow.Author.Rules.{rules}
 use mathlib.Core.Path.{◌≡◌, sym, ◌∙◌}
 use native.Mathlib.Omega.{arith}
 use lib.ListN.{length-take}
@@ -14,17 +15,17 @@ returns-then-found-lt-PASSED c = answered c.refused_by.ensures (stays_old _ _ _ 
 
 pub slice_bounds-geometry_at-end : goal.slice_bounds-geometry_at-end
 slice_bounds-geometry_at-end c = let passed : let a = c.args in hall_verdict a.hall.now a.n ≡ Sound = lowest_sound _ _ _ c.survey_first-found.ensures.examined c.if-found-lt-PASSED.false in
-    let sound : let a = c.args in Old a.hall.now a.n = old _ _ (λ i. (c.slice_known-1.given i).fits) passed in
+    let sound : let a = c.args in Old a.hall.now a.n = old _ _ (λ i. search rules) passed in
     sound.within
 
 pub slice_bounds-geometry_at-end-2 : goal.slice_bounds-geometry_at-end-2
 slice_bounds-geometry_at-end-2 c = let passed : let a = c.args in hall_verdict a.hall.now a.n ≡ Sound = lowest_sound _ _ _ c.survey_first-found.ensures.examined c.if-found-lt-PASSED.false in
-    let sound : let a = c.args in Old a.hall.now a.n = old _ _ (λ i. (c.slice_known-1.given i).fits) passed in
+    let sound : let a = c.args in Old a.hall.now a.n = old _ _ (λ i. search rules) passed in
     let fit = sound.within in simp length-take (omega arith)
 
 pub geometry_at-requires : goal.geometry_at-requires
 geometry_at-requires c = let passed : let a = c.args in hall_verdict a.hall.now a.n ≡ Sound = lowest_sound _ _ _ c.survey_first-found.ensures.examined c.if-found-lt-PASSED.false in
-    let sound : let a = c.args in Old a.hall.now a.n = old _ _ (λ i. (c.slice_known-1.given i).fits) passed in
+    let sound : let a = c.args in Old a.hall.now a.n = old _ _ (λ i. search rules) passed in
     (sound.records-are, c.survey_first-found.ensures.nearest passed)
 
 pub set_in_geometry-requires : goal.set_in_geometry-requires
@@ -34,5 +35,5 @@ set_in_geometry-requires c = let passed : let a = c.args in hall_verdict a.hall.
 
 pub returns-in-Absent : goal.returns-in-Absent
 returns-in-Absent c = let passed : let a = c.args in hall_verdict a.hall.now a.n ≡ Sound = lowest_sound _ _ _ c.survey_first-found.ensures.examined c.if-found-lt-PASSED.false in
-    let sound : let a = c.args in Old a.hall.now a.n = old _ _ (λ i. (c.slice_known-1.given i).fits) passed in
+    let sound : let a = c.args in Old a.hall.now a.n = old _ _ (λ i. search rules) passed in
     answered c.refused.ensures (set-nowhere _ _ _ _ _ _ _ sound (sym c.in-Absent.is ∙ c.geometry_at.ensures))

@@ -1,4 +1,5 @@
 -- A vertex that is not there refuses by 21 and a semantic that is not declared by 22; a component that is found is handed on.
+use borrow.Author.Rules.{rules}
 use mathlib.Core.Path.{◌≡◌, sym, ap, ◌∙◌}
 use Prim.Native.Nat.{◌+◌}
 use native.Mathlib.Omega.{arith}
@@ -10,15 +11,15 @@ use Rattle.halls.proofs.edit.StepLaws.{old, answered}
 use Rattle.halls.proofs.edit.set_attribute.set_in_geometry.Goals as goal
 
 pub overflow_add-at : goal.overflow_add-at
-overflow_add-at c = let here : let a = c.args in Spot a.hall.now a.n a.model a.geometry a.at = spot (old _ _ (λ i. (c.slice_known-1.given i).fits) c.requires.0) _ _ _ c.requires.1 in
+overflow_add-at c = let here : let a = c.args in Spot a.hall.now a.n a.model a.geometry a.at = spot (old _ _ (λ i. search rules) c.requires.0) _ _ _ c.requires.1 in
     omega (arith, Spot-inside here)
 
 pub returns-then-u16_le-vertex : goal.returns-then-u16_le-vertex
-returns-then-u16_le-vertex c = let here : let a = c.args in Spot a.hall.now a.n a.model a.geometry a.at = spot (old _ _ (λ i. (c.slice_known-1.given i).fits) c.requires.0) _ _ _ c.requires.1 in
+returns-then-u16_le-vertex c = let here : let a = c.args in Spot a.hall.now a.n a.model a.geometry a.at = spot (old _ _ (λ i. search rules) c.requires.0) _ _ _ c.requires.1 in
     answered c.refused.ensures (set-no_vertex _ _ _ _ _ _ _ here c.u16_le.ensures c.if-u16_le-vertex.true)
 
 pub overflow_add-at-2 : goal.overflow_add-at-2
-overflow_add-at-2 c = let here : let a = c.args in Spot a.hall.now a.n a.model a.geometry a.at = spot (old _ _ (λ i. (c.slice_known-1.given i).fits) c.requires.0) _ _ _ c.requires.1 in
+overflow_add-at-2 c = let here : let a = c.args in Spot a.hall.now a.n a.model a.geometry a.at = spot (old _ _ (λ i. search rules) c.requires.0) _ _ _ c.requires.1 in
     omega (arith, Spot-inside here)
 
 pub set_component-requires : goal.set_component-requires
@@ -32,7 +33,7 @@ set_component-requires c = let looked : let a = c.args in c.component.result ≡
     )
 
 pub returns-in-Missing : goal.returns-in-Missing
-returns-in-Missing c = let here : let a = c.args in Spot a.hall.now a.n a.model a.geometry a.at = spot (old _ _ (λ i. (c.slice_known-1.given i).fits) c.requires.0) _ _ _ c.requires.1 in
+returns-in-Missing c = let here : let a = c.args in Spot a.hall.now a.n a.model a.geometry a.at = spot (old _ _ (λ i. search rules) c.requires.0) _ _ _ c.requires.1 in
     let looked : let a = c.args in c.component.result ≡ found_component (component_of (declaration_at a.hall.now (a.at + 26)) a.semantic) = let a = c.args in
     c.component.ensures ∙ ap (λ (d : VertexDeclaration). found_component (component_of d a.semantic)) c.read_declaration.ensures in
     answered c.refused-in-Missing.ensures
