@@ -11,7 +11,6 @@ use lib.Dec.{eqb, leb}
 use lib.ListN.{length, take, length-append}
 use Rattle.sections.specs.Address.{Sections, resolved, within_limit}
 use Rattle.sections.specs.Edit.{part, overwrite}
-use Rattle.sections.specs.Le.{field}
 use Rattle.sections.specs.Lists.{header_of, header_length}
 use Rattle.sections.proofs.AddressLaws.{limit-each}
 use Rattle.sections.proofs.EditLaws.{part_same}

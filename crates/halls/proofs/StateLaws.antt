@@ -18,7 +18,7 @@ use Rattle.halls.specs.ImageSize.{geometry_size, model_size, image_size}
 use Rattle.halls.specs.Parsing.{records_length, models_in, parse}
 use Rattle.halls.specs.Records.{Record, records}
 use Rattle.halls.specs.Checks.{image_within_limit, judged, verdict, hall_verdict}
-use Rattle.halls.specs.State.{Geometry, State, vertex_count, full_geometry, full_model, hall_of, state_bytes, geometry_length, state_length, geometry_state, model_state, state_of, GeometryInWidth, StateInWidth, IsState}
+use Rattle.halls.specs.State.{Geometry, State, full_geometry, full_model, hall_of, state_bytes, geometry_length, state_length, geometry_state, model_state, state_of, GeometryInWidth, StateInWidth, IsState}
 use Rattle.halls.specs.declared.check.check.Verdict.TheVariants.{Sound}
 use Rattle.halls.proofs.format.BodyLaws.{AllBytes, drop-below, model_body-length, geometry_body-length, vertices_body-length, Vertices-read-back, indices_body-length}
 use Rattle.halls.proofs.EveryLaws.{below_each}

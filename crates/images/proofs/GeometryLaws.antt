@@ -20,7 +20,7 @@ use Rattle.vertices.specs.declared.buffer.StoredDeclaration.{StoredDeclaration}
 use Rattle.vertices.specs.declared.buffer.StoredDeclaration.TheVariants.{Declaration}
 use Rattle.vertices.specs.declared.buffer.VertexBuffer.{VertexBuffer}
 use Rattle.vertices.specs.declared.buffer.VertexBufferLayout.TheVariants.{Legacy}
-use Rattle.halls.specs.Blocks.{geometry_block, index_block}
+use Rattle.halls.specs.Blocks.{geometry_block}
 use Rattle.halls.specs.Hall.{FullGeometry, FullGeometryInWidth, listed_geometry}
 use Rattle.halls.specs.Reading.{indices_at, indices_of, vertices_of, vertex_count_of, geometry_with, geometry_of}
 use Rattle.halls.proofs.EveryLaws.{every-each, each_below}

@@ -15,7 +15,6 @@ use Rattle.halls.specs.Parsing.{models_in}
 use Rattle.halls.specs.Records.{records}
 use Rattle.halls.specs.declared.answer.Answer.{Answer}
 use Rattle.halls.specs.declared.answer.Answer.TheVariants.{Accepted, Refused}
-use Rattle.halls.specs.declared.check.check.HallSize.{HallSize}
 use Rattle.halls.specs.declared.check.check.HallSize.TheVariants.{Sized, Unsound}
 use Rattle.halls.specs.declared.check.check.Verdict.{Verdict}
 use Rattle.halls.specs.declared.check.check.Verdict.TheVariants.{Sound, Fails}

@@ -6,7 +6,7 @@ use native.Mathlib.Omega.{arith}
 use lib.ListN.{length, replicate}
 use Rattle.sections.specs.Edit.{part, overwrite}
 use Rattle.sections.specs.Le.{le, bytes, field}
-use Rattle.vertices.specs.Declaration.{InWidth, position_only, declaration_at, declaration_bytes, components_from, components_of, sizes, total_size, with_index, component_of}
+use Rattle.vertices.specs.Declaration.{position_only, declaration_at, declaration_bytes, components_from, components_of, sizes, total_size, with_index, component_of}
 use Rattle.vertices.specs.Runs.{numbers, run}
 use Rattle.vertices.specs.Types.{component_type_of, semantic_of}
 use Rattle.halls.specs.Calls.{Given, Call, add_model, add_geometry, proposed}
@@ -19,7 +19,6 @@ use Rattle.halls.specs.Parsing.{records_length, whole, follows, may_end, ordered
 use Rattle.halls.specs.Records.{body_length, front_record, first_records, records}
 use Rattle.halls.specs.State.{hall_of, state_bytes, state_of}
 use Rattle.halls.specs.Step.{step, step_in, rewritten, step_answer, step_bytes}
-use Rattle.halls.specs.declared.answer.Answer.{Answer}
 use Rattle.halls.specs.declared.answer.Answer.TheVariants.{Accepted}
 use Rattle.images.specs.Claim.{CallList, n_of, image_of}
 use Rattle.images.specs.Image.{header_bytes, model_block_bytes, geometry_block_bytes, vertex_block_bytes, index_block_bytes, filled, laid, addresses, geometry_block_of, vertex_block_of, index_block_of, geometry_image, model_block_of, model_image, image}

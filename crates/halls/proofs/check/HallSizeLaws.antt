@@ -13,7 +13,6 @@ use Rattle.halls.specs.Inner.Order.{passed, check_of}
 use Rattle.halls.specs.Inner.Walk.{Counted, ExaminedFirst}
 use Rattle.halls.specs.Parsing.{models_in}
 use Rattle.halls.specs.Records.{records}
-use Rattle.halls.specs.declared.check.check.HallSize.{HallSize}
 use Rattle.halls.specs.declared.check.check.HallSize.TheVariants.{Sized, Unsound}
 use Rattle.halls.specs.declared.check.check.Verdict.TheVariants.{Sound}
 use Rattle.halls.specs.declared.check.pass.Summary.{Summary}

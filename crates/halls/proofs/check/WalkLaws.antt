@@ -22,7 +22,7 @@ use Rattle.halls.specs.Inner.Judging.{lowest_of}
 use Rattle.halls.specs.Inner.Order.{passed, failing}
 use Rattle.halls.specs.Parsing.{whole, follows, may_end, ordered, exact, structured, geometry_in, mapping_count}
 use Rattle.halls.specs.Records.{Record, records}
-use Rattle.halls.specs.Inner.Walk.{front_of, well_from, leads, rest, is_empty, lowest_from, kind_count, units, model_units, geometry_units, units_from, left_of, start_tally, mark_of, before_of, Walked, Onward, Turned}
+use Rattle.halls.specs.Inner.Walk.{front_of, well_from, leads, rest, is_empty, lowest_from, kind_count, model_units, geometry_units, units_from, left_of, start_tally, mark_of, before_of, Walked, Onward, Turned}
 use Rattle.halls.specs.declared.format.front.Front.TheVariants.{Model, Geometry, Broken}
 use Rattle.halls.specs.declared.check.pass.Tally.{Tally}
 use Rattle.halls.specs.declared.check.pass.Turn.{Turn}

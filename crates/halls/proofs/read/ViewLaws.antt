@@ -10,7 +10,6 @@ use lib.Dec.{eqb}
 use lib.ListN.{length, length-append}
 use Rattle.sections.specs.Address.{Sections, located, resolved, range_of}
 use Rattle.sections.specs.Edit.{overwrite}
-use Rattle.sections.specs.Le.{bytes}
 use Rattle.sections.proofs.AddressLaws.{HasBytes, located-found}
 use Rattle.sections.proofs.EditLaws.{overwrite-then}
 use Rattle.sections.proofs.LeLaws.{length-bytes}

@@ -1,5 +1,5 @@
 -- The indices passed stand in the list, two more a turn.
-use Prim.Native.Nat.{◌*◌, ◌-◌, ◌≤◌}
+use Prim.Native.Nat.{◌*◌, ◌≤◌}
 use native.Mathlib.Omega.{arith}
 use Rattle.images.proofs.NarrowLaws.{Narrowing-start, Narrowing-end, pairs_turn}
 use Rattle.images.proofs.indices.put_pairs.Goals as goal

@@ -1,6 +1,6 @@
 -- Each turn passes one record: what is sought from the place reached is what is sought from `at`.
 use mathlib.Core.Path.{refl, ◌∙◌}
-use Prim.Native.Nat.{ℕ, ◌-◌}
+use Prim.Native.Nat.{ℕ}
 use native.Mathlib.Omega.{arith}
 use Rattle.halls.proofs.check.SeekLaws.{sought-end, sought-broken, sought-here, sought-next, sought-ended, sought-past}
 use Rattle.halls.proofs.check.find.seek.Goals as goal

@@ -1,6 +1,6 @@
 -- Each turn keeps what the walk knows and which place is nearest, and its ends say what the whole list comes to.
 use mathlib.Core.Path.{◌∙◌, subst, sym}
-use Prim.Native.Nat.{◌-◌, ◌≤◌, ◌<◌}
+use Prim.Native.Nat.{◌≤◌, ◌<◌}
 use native.Mathlib.Omega.{arith}
 use Rattle.halls.specs.Inner.Walk.{Walked}
 use Rattle.halls.specs.declared.check.pass.Mark.{Mark}

@@ -1,6 +1,5 @@
 -- The triangles passed were counted, one more a turn.
 use mathlib.Core.Path.{◌≡◌, refl, ◌∙◌}
-use Prim.Native.Nat.{◌-◌}
 use native.Mathlib.Omega.{arith}
 use Rattle.halls.proofs.check.ScanLaws.{counted_start, Counted-turn, Counted-end, lent-next}
 use Rattle.halls.proofs.check.words.lent_block_lowest.Goals as goal
@@ -15,11 +14,10 @@ pub overflow_add-pairs : goal.overflow_add-pairs
 overflow_add-pairs c = omega (arith, c.loop-i.invariant.0.fewer)
 
 pub loop-i-preserved : goal.loop-i-preserved
-loop-i-preserved c =
-    (
-      Counted-turn c.loop-i.invariant.0 c.lent_triangle_at-t.result (lent-next c.args.words.now c.args.at c.loop-i.i _ refl (omega arith) c.lent_triangle_at-t.ensures) (omega (arith, c.indices_below-inside.ensures.0)) (omega (arith, c.equal_pairs-pairs.ensures.0)),
-      omega arith,
-    )
+loop-i-preserved c = (
+  Counted-turn c.loop-i.invariant.0 c.lent_triangle_at-t.result (lent-next c.args.words.now c.args.at c.loop-i.i _ refl (omega arith) c.lent_triangle_at-t.ensures) (omega (arith, c.indices_below-inside.ensures.0)) (omega (arith, c.equal_pairs-pairs.ensures.0)),
+  omega arith,
+)
 
 pub returns : goal.returns
 returns c =

@@ -1,6 +1,6 @@
 -- The blocks passed come to the lowest so far, one more a turn; an index out of range ends the scan.
 use mathlib.Core.Path.{refl, ap, ◌∙◌}
-use Prim.Native.Nat.{◌+◌, ◌*◌, ◌-◌, min}
+use Prim.Native.Nat.{◌+◌, ◌*◌, min}
 use native.Mathlib.Omega.{arith}
 use lib.ListN.{take}
 use lib.Seq.{take_all}

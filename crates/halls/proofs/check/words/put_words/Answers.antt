@@ -1,5 +1,4 @@
 -- The numbers passed stand in the bytes, one more a turn.
-use Prim.Native.Nat.{◌-◌}
 use Rattle.halls.proofs.check.WordLaws.{Putting-start, Putting-turn, Putting-end}
 use Rattle.halls.proofs.check.words.put_words.Goals as goal
 

@@ -1,5 +1,4 @@
 -- Each turn adds what is behind one pointer.
-use Prim.Native.Nat.{◌-◌}
 use Rattle.sections.specs.Address.{sections}
 use Rattle.halls.proofs.edit.TakingItems.{taking-start, taking_room, taking_turn, taking-end}
 use Rattle.halls.proofs.read.Walks.{geometries-none, geometries-next}

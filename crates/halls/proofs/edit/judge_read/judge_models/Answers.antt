@@ -1,5 +1,4 @@
 -- Each turn adds what is behind one pointer.
-use Prim.Native.Nat.{◌-◌}
 use native.Mathlib.Omega.{arith}
 use Rattle.sections.specs.Address.{sections}
 use Rattle.vertices.proofs.RunLaws.{numbers-length}

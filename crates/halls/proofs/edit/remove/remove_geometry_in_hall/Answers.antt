@@ -20,11 +20,10 @@ geometry_at-requires c = let sound : Old c.args.hall.now c.args.n = old _ _ (λ 
     (sound.records-are, c.requires.1)
 
 pub cut_geometry-requires : goal.cut_geometry-requires
-cut_geometry-requires c =
-    (
-      c.requires.0,
-      place_found _ _ _ _ (sym c.geometry_at.ensures ∙ c.in-At.is),
-    )
+cut_geometry-requires c = (
+  c.requires.0,
+  place_found _ _ _ _ (sym c.geometry_at.ensures ∙ c.in-At.is),
+)
 
 pub returns-in-Absent : goal.returns-in-Absent
 returns-in-Absent c = let sound : Old c.args.hall.now c.args.n = old _ _ (λ i. search rules) c.requires.0 in

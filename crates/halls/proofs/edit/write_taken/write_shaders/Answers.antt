@@ -1,5 +1,4 @@
 -- Each turn writes what is behind one pointer right behind what was written.
-use Prim.Native.Nat.{◌-◌}
 use Rattle.sections.specs.Address.{sections}
 use Rattle.halls.proofs.read.Walks.{geometries-none, geometries-next}
 use Rattle.halls.proofs.read.WritingItems.{items-start, items_room, items_turn, items_place, items-end}

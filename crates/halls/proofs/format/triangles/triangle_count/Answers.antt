@@ -1,5 +1,4 @@
 -- The records before `at` are counted; each turn counts one more, and the loop ends where no whole one is left.
-use Prim.Native.Nat.{◌-◌}
 use native.Mathlib.Omega.{arith}
 use Rattle.halls.proofs.format.TriangleLaws.{Counting-start, Counting-turn, Counting-end, Counting-broken}
 use Rattle.halls.proofs.format.triangles.triangle_count.Goals as goal

@@ -1,5 +1,4 @@
 -- The indices passed stand in the list, one more a turn.
-use Prim.Native.Nat.{◌-◌}
 use Rattle.halls.proofs.read.Widening.{Widening-start, Widening-one, Widening-end}
 use Rattle.halls.proofs.read.widen.put_widened.Goals as goal
 

@@ -1,0 +1,17 @@
+-- The declaration's 16 bytes, or nothing.
+use mathlib.Core.Path.{◌≡◌, sym, ◌∙◌}
+use native.Mathlib.Omega.{arith}
+use lib.ListN.{length}
+use Rattle.sections.proofs.EditLaws.{Edited-fits, overwrite-none}
+use Rattle.vertices.proofs.DeclarationLaws.{declaration_length_lem}
+use Rattle.exports.specs.Buffers.{stored_bytes}
+use Rattle.exports.proofs.buffers.put_stored.Goals as goal
+
+pub returns-in-Declaration : goal.returns-in-Declaration
+returns-in-Declaration c =
+    let told = c.in-Declaration.is in
+    let long : length (stored_bytes c.args.declaration) ≡ 16 = rw told (declaration_length_lem _) in
+    Edited-fits 16 c.write_declaration.ensures (omega (arith, c.requires)) ∙ rw told
+
+pub returns-in-Absent : goal.returns-in-Absent
+returns-in-Absent c = rw c.in-Absent.is (sym (overwrite-none c.args.out.now c.args.at))

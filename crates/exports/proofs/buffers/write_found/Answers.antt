@@ -1,0 +1,13 @@
+-- The bytes of the buffer that was found, or none.
+use mathlib.Core.Path.{refl, sym}
+use mathlib.Core.List.{[]}
+use native.Mathlib.Omega.{arith}
+use Rattle.sections.proofs.EditLaws.{overwrite-none}
+use Rattle.exports.proofs.ToldLaws.{fitting-yes}
+use Rattle.exports.proofs.buffers.write_found.Goals as goal
+
+pub returns-in-Buffer : goal.returns-in-Buffer
+returns-in-Buffer c = rw c.in-Buffer.is c.write_buffer.ensures
+
+pub returns-in-NotFound : goal.returns-in-NotFound
+returns-in-NotFound c = rw c.in-NotFound.is (fitting-yes [] (omega arith) (sym (overwrite-none _ 0)) refl)

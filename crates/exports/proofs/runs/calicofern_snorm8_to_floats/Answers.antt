@@ -1,0 +1,6 @@
+-- The run's answer, told as a number and a length.
+use Rattle.exports.proofs.ToldLaws.{Widened-told}
+use Rattle.exports.proofs.runs.calicofern_snorm8_to_floats.Goals as goal
+
+pub returns : goal.returns
+returns c = Widened-told c.snorm8_to_floats.ensures c.told_run.ensures.0 c.told_run.ensures.1
