@@ -5,10 +5,10 @@ use std::io::{self, Write};
 use testing::{Row, numbers, text};
 
 // locate_list, at address c, of d elements of e bytes.
-pub fn locate_list_row<'a>(
+pub fn locate_list_row(
     out: &mut impl Write,
-    system: &'a [u8],
-    graphics: &'a [u8],
+    system: &[u8],
+    graphics: &[u8],
     row: Row,
 ) -> io::Result<()> {
     let count = (row.d % 4294967296) as u32;
@@ -24,10 +24,10 @@ pub fn locate_list_row<'a>(
 }
 
 // read_pointer_list_header, at address c; both sections have two zeros at offset d.
-pub fn header_row<'a>(
+pub fn header_row(
     out: &mut impl Write,
-    system: &'a [u8],
-    graphics: &'a [u8],
+    system: &[u8],
+    graphics: &[u8],
     row: Row,
 ) -> io::Result<()> {
     text(out, b"header")?;

@@ -12,10 +12,10 @@ pub fn place(out: &mut impl Write, p: Located) -> io::Result<()> {
 }
 
 // locate, at address c, of d bytes.
-pub fn locate_row<'a>(
+pub fn locate_row(
     out: &mut impl Write,
-    system: &'a [u8],
-    graphics: &'a [u8],
+    system: &[u8],
+    graphics: &[u8],
     row: Row,
 ) -> io::Result<()> {
     text(out, b"locate")?;
@@ -36,10 +36,10 @@ fn slice(out: &mut impl Write, b: &[u8]) -> io::Result<()> {
 }
 
 // resolve, at address c, of d bytes.
-pub fn resolve_row<'a>(
+pub fn resolve_row(
     out: &mut impl Write,
-    system: &'a [u8],
-    graphics: &'a [u8],
+    system: &[u8],
+    graphics: &[u8],
     row: Row,
 ) -> io::Result<()> {
     text(out, b"resolve")?;
@@ -59,10 +59,10 @@ fn place_of(which: u64, at: usize) -> Located {
 }
 
 // bytes_of, at offset d of the system section (c = 0), of the graphics section (1) or of none, of e bytes.
-pub fn bytes_of_row<'a>(
+pub fn bytes_of_row(
     out: &mut impl Write,
-    system: &'a [u8],
-    graphics: &'a [u8],
+    system: &[u8],
+    graphics: &[u8],
     row: Row,
 ) -> io::Result<()> {
     let p = place_of(row.c, row.d as usize);
@@ -72,10 +72,10 @@ pub fn bytes_of_row<'a>(
 }
 
 // within_limit. Only its yes is tried here: a section of more than 67,108,864 bytes does not fit on a program's stack.
-pub fn within_limit_row<'a>(
+pub fn within_limit_row(
     out: &mut impl Write,
-    system: &'a [u8],
-    graphics: &'a [u8],
+    system: &[u8],
+    graphics: &[u8],
     row: Row,
 ) -> io::Result<()> {
     text(out, b"within_limit")?;

@@ -12,10 +12,10 @@ use buffers::section_with_gap;
 use std::io::{self, BufReader, BufWriter, Read, Write};
 use testing::{Row, first, read_full, row_in};
 
-fn run_on_sections<'a>(
+fn run_on_sections(
     out: &mut impl Write,
-    system: &'a [u8],
-    graphics: &'a [u8],
+    system: &[u8],
+    graphics: &[u8],
     row: Row,
 ) -> io::Result<()> {
     match row.kind {

@@ -4,12 +4,12 @@ ghost use Rattle.std.specs.Prelude.{◌≡◌, ◌<◌, ◌≤◌, length, IfOk}
 use std::io::{self, Read};
 
 // The first n bytes, or all of them where there are fewer.
-pub fn first<'a>(b: &'a [u8], n: usize) -> &'a [u8] {
+pub fn first(b: &[u8], n: usize) -> &[u8] {
     &b[..n.min(b.len())]
 }
 
 // The bytes from n on, none where there are fewer.
-pub fn rest<'a>(b: &'a [u8], n: usize) -> &'a [u8] {
+pub fn rest(b: &[u8], n: usize) -> &[u8] {
     &b[n.min(b.len())..]
 }
 
