@@ -8,7 +8,7 @@ use testing::{first, rest};
 pub fn list_buffer() -> [u8; 4096]
     ensures { length result ≡ 4096 }
 {
-    let mut b = io::buffer();
+    let mut b = [0; 4096];
     testing::fill(&mut b, 129);
     b
 }
@@ -53,11 +53,8 @@ pub fn put_row(b: &mut [u8], data: &[u8], runs: usize) {
 }
 
 fn put_runs(b: &mut [u8], data: &[u8]) {
-    let n = data.len() / 32;
-    let mut i = 0;
-    while i < n {
-        put_run(b, rest(data, i * 32));
-        i += 1;
+    for run in data.chunks_exact(32) {
+        put_run(b, run);
     }
 }
 
@@ -66,10 +63,8 @@ fn put_run(b: &mut [u8], run: &[u8]) {
     let mut at = u64_le(run, 0) as usize;
     let step = u64_le(run, 8) as usize;
     let value = u64_le(run, 24);
-    let mut left = u64_le(run, 16);
-    while left > 0 {
+    for _ in 0..u64_le(run, 16) {
         put_u64_le(b, at, value);
-        at = std::num::wrapping_add_usize(at, step);
-        left -= 1;
+        at = at.wrapping_add(step);
     }
 }

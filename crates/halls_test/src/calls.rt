@@ -3,6 +3,7 @@
 use crate::buffers::list_buffer;
 use replay::{answered, called_first};
 use sections::u64_le;
+use std::io::{self, Write};
 use testing::{Row, bytes, first, numbers, rest, text};
 
 pub fn hall_buffer(data: &[u8], at: usize) -> [u8; 4096] {
@@ -11,27 +12,27 @@ pub fn hall_buffer(data: &[u8], at: usize) -> [u8; 4096] {
     b
 }
 
-fn call_row(row: Row, data: &[u8]) {
+fn call_row(out: &mut impl Write, row: Row, data: &[u8]) -> io::Result<()> {
     let mut b = hall_buffer(data, 32);
     let answer = called_first(&mut b, row.a as usize, row.b as usize, row, first(data, 32));
-    answered(answer, &b);
+    answered(out, answer, &b)
 }
 
 // add_model, with binding c and mask d.
-pub fn add_model_row(row: Row, data: &[u8]) {
-    text(b"add model");
-    numbers(row, 4);
-    call_row(row, data);
+pub fn add_model_row(out: &mut impl Write, row: Row, data: &[u8]) -> io::Result<()> {
+    text(out, b"add model")?;
+    numbers(out, row, 4)?;
+    call_row(out, row, data)
 }
 
 // add_geometry, with shader c, stride d and count e; the others are further arguments, 56 bytes and the vertex bytes.
-pub fn add_geometry_row(row: Row, data: &[u8]) {
+pub fn add_geometry_row(out: &mut impl Write, row: Row, data: &[u8]) -> io::Result<()> {
     let end = 56 + (u64_le(data, 16) % 4096) as usize;
     let mut b = hall_buffer(data, end);
-    text(b"add geometry");
-    numbers(row, 5);
-    bytes(first(data, 56));
-    text(b":");
+    text(out, b"add geometry")?;
+    numbers(out, row, 5)?;
+    bytes(out, first(data, 56))?;
+    text(out, b":")?;
     let answer = called_first(
         &mut b,
         row.a as usize,
@@ -39,37 +40,37 @@ pub fn add_geometry_row(row: Row, data: &[u8]) {
         row,
         first(data, end),
     );
-    answered(answer, &b);
+    answered(out, answer, &b)
 }
 
 // remove_model, of model c.
-pub fn remove_model_row(row: Row, data: &[u8]) {
-    text(b"remove model");
-    numbers(row, 3);
-    call_row(row, data);
+pub fn remove_model_row(out: &mut impl Write, row: Row, data: &[u8]) -> io::Result<()> {
+    text(out, b"remove model")?;
+    numbers(out, row, 3)?;
+    call_row(out, row, data)
 }
 
 // remove_geometry, of geometry d of model c.
-pub fn remove_geometry_row(row: Row, data: &[u8]) {
-    text(b"remove geometry");
-    numbers(row, 4);
-    call_row(row, data);
+pub fn remove_geometry_row(out: &mut impl Write, row: Row, data: &[u8]) -> io::Result<()> {
+    text(out, b"remove geometry")?;
+    numbers(out, row, 4)?;
+    call_row(out, row, data)
 }
 
 // set_attribute, in vertex e of geometry d of model c; semantic, shape and value are further arguments.
-pub fn set_attribute_row(row: Row, data: &[u8]) {
-    text(b"set attribute");
-    numbers(row, 5);
-    bytes(first(data, 32));
-    text(b":");
-    call_row(row, data);
+pub fn set_attribute_row(out: &mut impl Write, row: Row, data: &[u8]) -> io::Result<()> {
+    text(out, b"set attribute")?;
+    numbers(out, row, 5)?;
+    bytes(out, first(data, 32))?;
+    text(out, b":")?;
+    call_row(out, row, data)
 }
 
 // replace_indices, of geometry d of model c; the indices are further arguments.
-pub fn replace_indices_row(row: Row, data: &[u8]) {
-    text(b"replace indices");
-    numbers(row, 4);
-    bytes(first(data, 32));
-    text(b":");
-    call_row(row, data);
+pub fn replace_indices_row(out: &mut impl Write, row: Row, data: &[u8]) -> io::Result<()> {
+    text(out, b"replace indices")?;
+    numbers(out, row, 4)?;
+    bytes(out, first(data, 32))?;
+    text(out, b":")?;
+    call_row(out, row, data)
 }

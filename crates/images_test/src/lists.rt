@@ -1,6 +1,7 @@
 // Rows of lists of calls. In each, a is the number of its list and b its own in there. A call gets the buffers and n as the row before left them.
 use halls::Answer;
 use replay::{accepted, answered, called_first, nothing, refused};
+use std::io::{self, Write};
 use testing::{Row, bytes, fill, first, numbers, rest, text};
 
 // The first `room` bytes of the hall's buffer are lent, and the first n of those are the hall; `more` is whether there was a row.
@@ -11,44 +12,44 @@ pub struct Stand {
     pub more: bool,
 }
 
-fn named(kind: u64) {
+fn named(out: &mut impl Write, kind: u64) -> io::Result<()> {
     match kind {
-        0 => text(b"list"),
-        5 => text(b"add model"),
-        6 => text(b"remove model"),
-        7 => text(b"remove geometry"),
-        8 => text(b"set attribute"),
-        11 => text(b"replace indices"),
-        12 => text(b"add geometry"),
-        13 => text(b"take in"),
-        14 => text(b"save"),
-        15 => text(b"take in the image"),
-        _ => text(b"unknown"),
+        0 => text(out, b"list"),
+        5 => text(out, b"add model"),
+        6 => text(out, b"remove model"),
+        7 => text(out, b"remove geometry"),
+        8 => text(out, b"set attribute"),
+        11 => text(out, b"replace indices"),
+        12 => text(out, b"add geometry"),
+        13 => text(out, b"take in"),
+        14 => text(out, b"save"),
+        15 => text(out, b"take in the image"),
+        _ => text(out, b"unknown"),
     }
 }
 
 // A list starts, with n = c and d bytes lent: patterns in both buffers, and the row's bytes over the beginning of the hall's.
-fn begin(hall: &mut [u8], image: &mut [u8], row: Row, data: &[u8]) -> Stand {
+fn begin(
+    out: &mut impl Write,
+    hall: &mut [u8],
+    image: &mut [u8],
+    row: Row,
+    data: &[u8],
+) -> io::Result<Stand> {
     let seed = (row.e % 256) as u8;
     fill(hall, seed);
     fill(image, seed);
     sections::copy_into(hall, 0, data);
-    text(b"\n");
-    Stand {
+    text(out, b"\n")?;
+    Ok(Stand {
         room: row.d as usize,
         n: row.c as usize,
         more: true,
-    }
+    })
 }
 
 // take_in, behind the header at `va`.
-fn taken_in<'a>(
-    hall: &mut [u8],
-    stand: Stand,
-    system: &'a [u8],
-    graphics: &'a [u8],
-    va: u64,
-) -> Answer {
+fn taken_in(hall: &mut [u8], stand: Stand, system: &[u8], graphics: &[u8], va: u64) -> Answer {
     let room = stand.room;
     if room <= hall.len() {
         return halls::take_in(&mut hall[..room], stand.n, system, graphics, va);
@@ -59,9 +60,8 @@ fn taken_in<'a>(
 // take_in at address c, of sections that are the row's bytes, the first d of them the system section; of the first d bytes of the image buffer, without a
 // graphics section; or another call.
 fn called(hall: &mut [u8], image: &[u8], stand: Stand, row: Row, data: &[u8]) -> Answer {
-    let kind = row.kind;
     let cut = row.d as usize;
-    match kind {
+    match row.kind {
         13 => taken_in(hall, stand, first(data, cut), rest(data, cut), row.c),
         15 => taken_in(hall, stand, first(image, cut), first(image, 0), row.c),
         _ => called_first(hall, stand.n, stand.room, row, data),
@@ -76,14 +76,21 @@ fn next(n: usize, answer: Answer) -> usize {
     }
 }
 
-fn call_row(hall: &mut [u8], image: &[u8], stand: Stand, row: Row, data: &[u8]) -> Stand {
+fn call_row(
+    out: &mut impl Write,
+    hall: &mut [u8],
+    image: &[u8],
+    stand: Stand,
+    row: Row,
+    data: &[u8],
+) -> io::Result<Stand> {
     let answer = called(hall, image, stand, row, data);
-    answered(answer, hall);
-    Stand {
+    answered(out, answer, hall)?;
+    Ok(Stand {
         room: stand.room,
         n: next(stand.n, answer),
         more: true,
-    }
+    })
 }
 
 // save, into the first c bytes of the image buffer.
@@ -96,30 +103,42 @@ fn saved(hall: &[u8], image: &mut [u8], stand: Stand, row: Row) -> Answer {
 }
 
 // The answer, the checksum of the whole image buffer, and the image where it has at most 576 bytes.
-fn save_row(hall: &[u8], image: &mut [u8], stand: Stand, row: Row) {
+fn save_row(
+    out: &mut impl Write,
+    hall: &[u8],
+    image: &mut [u8],
+    stand: Stand,
+    row: Row,
+) -> io::Result<()> {
     match saved(hall, image, stand, row) {
         Answer::Accepted(length) => {
-            accepted(length, image);
+            accepted(out, length, image)?;
             if length <= 576 {
-                bytes(first(image, length as usize));
+                bytes(out, first(image, length as usize))?;
             }
         }
-        Answer::Refused(refusal) => refused(refusal, image),
+        Answer::Refused(refusal) => refused(out, refusal, image)?,
     }
-    text(b"\n");
+    text(out, b"\n")
 }
 
 // What the row asks for, and where the list stands afterwards.
-pub fn run(hall: &mut [u8], image: &mut [u8], stand: Stand, row: Row, data: &[u8]) -> Stand {
-    let kind = row.kind;
-    named(kind);
-    numbers(row, 5);
-    if kind == 0 {
-        return begin(hall, image, row, data);
+pub fn run(
+    out: &mut impl Write,
+    hall: &mut [u8],
+    image: &mut [u8],
+    stand: Stand,
+    row: Row,
+    data: &[u8],
+) -> io::Result<Stand> {
+    named(out, row.kind)?;
+    numbers(out, row, 5)?;
+    match row.kind {
+        0 => begin(out, hall, image, row, data),
+        14 => {
+            save_row(out, hall, image, stand, row)?;
+            Ok(stand)
+        }
+        _ => call_row(out, hall, image, stand, row, data),
     }
-    if kind == 14 {
-        save_row(hall, image, stand, row);
-        return stand;
-    }
-    call_row(hall, image, stand, row, data)
 }

@@ -4,6 +4,7 @@ use crate::buffers::output;
 use crate::declarations::declared;
 use crate::names;
 use crate::values::value_in;
+use std::io::{self, Write};
 use testing::{Row, bytes, done, first, numbers, text};
 use vertices::{VertexAttributeValue, VertexComponentType};
 
@@ -15,37 +16,35 @@ fn encode_first(
     t: VertexComponentType,
     v: VertexAttributeValue,
 ) -> bool {
-    if n <= b.len() {
-        return vertices::encode_value(&mut b[..n], at, t, v);
-    }
-    false
+    n <= b.len() && vertices::encode_value(&mut b[..n], at, t, v)
 }
 
 // What was encoded at `at`, read back as the only component of vertex 1.
-fn decoded(b: &[u8], nibble: u64, at: usize) {
-    attributes(vertices::read_vertex_attributes(b, (at % 65536) as u16, 2, declared(1, nibble), 1));
+fn decoded(out: &mut impl Write, b: &[u8], nibble: u64, at: usize) -> io::Result<()> {
+    let list = vertices::read_vertex_attributes(b, (at % 65536) as u16, 2, declared(1, nibble), 1);
+    attributes(out, list)
 }
 
 // has_shape and encode_value, of the type a and a value of shape b, at offset c, in a buffer of d bytes, at most 512.
 // Prints its first 64 bytes, and what was encoded, decoded.
-pub fn encode_row(row: Row, data: &[u8]) {
+pub fn encode_row(out: &mut impl Write, row: Row, data: &[u8]) -> io::Result<()> {
     let mut buffer = output();
     let t = VertexComponentType::from_nibble((row.a % 256) as u8);
     let v = value_in(data, row.b);
     let at = row.c as usize;
-    text(b"encode");
-    numbers(row, 4);
-    names::component_type(t);
+    text(out, b"encode")?;
+    numbers(out, row, 4)?;
+    names::component_type(out, t)?;
     if vertices::has_shape(t, v) {
-        text(b" yes");
+        text(out, b" yes")?;
     } else {
-        text(b" no");
+        text(out, b" no")?;
     }
     let answer = encode_first(&mut buffer, row.d as usize, at, t, v);
-    done(answer);
-    bytes(first(&buffer, 64));
+    done(out, answer)?;
+    bytes(out, first(&buffer, 64))?;
     if answer {
-        decoded(&buffer, row.a, at);
+        decoded(out, &buffer, row.a, at)?;
     }
-    text(b"\n");
+    text(out, b"\n")
 }

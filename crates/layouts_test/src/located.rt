@@ -1,50 +1,42 @@
 // Rows about locating the vertices of a geometry.
 use crate::declarations::declaration;
 use sections::Located;
+use std::io::{self, Write};
 use testing::{Row, first, number, numbers, rest, text};
 use vertices::{FoundBuffer, StoredDeclaration, VertexBuffer, VertexBufferLayout};
 
-fn layout_name(layout: VertexBufferLayout) {
+fn layout_name(out: &mut impl Write, layout: VertexBufferLayout) -> io::Result<()> {
     match layout {
-        VertexBufferLayout::Legacy => text(b" Legacy"),
-        VertexBufferLayout::LegacyData2 => text(b" LegacyData2"),
-        VertexBufferLayout::Gen9 => text(b" Gen9"),
-        VertexBufferLayout::GeometryInline => text(b" GeometryInline"),
+        VertexBufferLayout::Legacy => text(out, b" Legacy")?,
+        VertexBufferLayout::LegacyData2 => text(out, b" LegacyData2")?,
+        VertexBufferLayout::Gen9 => text(out, b" Gen9")?,
+        VertexBufferLayout::GeometryInline => text(out, b" GeometryInline")?,
     }
-    number(layout.number() as u64);
+    number(out, layout.number() as u64)
 }
 
-fn place(p: Located) {
+fn place(out: &mut impl Write, p: Located) -> io::Result<()> {
     match p {
-        Located::System(at) => {
-            text(b" system");
-            number(at as u64);
-        }
-        Located::Graphics(at) => {
-            text(b" graphics");
-            number(at as u64);
-        }
-        Located::Nothing => text(b" nothing"),
+        Located::System(at) => write!(out, " system {at:x}"),
+        Located::Graphics(at) => write!(out, " graphics {at:x}"),
+        Located::Nothing => text(out, b" nothing"),
     }
 }
 
-fn found(b: VertexBuffer) {
-    let layout = b.layout;
-    let data = b.data;
-    let stored = b.declaration;
-    layout_name(layout);
-    number(b.vertex_stride as u64);
-    number(b.vertex_count as u64);
-    number(b.data_pointer);
-    number(b.info_pointer);
-    place(data);
-    match stored {
-        StoredDeclaration::Declaration(d) => declaration(d),
-        StoredDeclaration::Absent => text(b" absent"),
+fn found(out: &mut impl Write, b: VertexBuffer) -> io::Result<()> {
+    layout_name(out, b.layout)?;
+    number(out, b.vertex_stride as u64)?;
+    number(out, b.vertex_count as u64)?;
+    number(out, b.data_pointer)?;
+    number(out, b.info_pointer)?;
+    place(out, b.data)?;
+    match b.declaration {
+        StoredDeclaration::Declaration(d) => declaration(out, d),
+        StoredDeclaration::Absent => text(out, b" absent"),
     }
 }
 
-fn located<'a>(system: &'a [u8], graphics: &'a [u8], row: Row) {
+fn located(out: &mut impl Write, system: &[u8], graphics: &[u8], row: Row) -> io::Result<()> {
     match vertices::parse_vertex_buffer_at(
         system,
         graphics,
@@ -53,17 +45,17 @@ fn located<'a>(system: &'a [u8], graphics: &'a [u8], row: Row) {
         (row.d % 4294967296) as u32,
         (row.e % 65536) as u16,
     ) {
-        FoundBuffer::Buffer(b) => found(b),
-        FoundBuffer::NotFound => text(b" not found"),
+        FoundBuffer::Buffer(b) => found(out, b),
+        FoundBuffer::NotFound => text(out, b" not found"),
     }
 }
 
 // parse_vertex_buffer_at, at address b, with the geometry's own pointer c, count d and stride e. The first a bytes are the
 // system section, the others the graphics section.
-pub fn buffer_row(row: Row, data: &[u8]) {
-    text(b"buffer");
-    numbers(row, 5);
+pub fn buffer_row(out: &mut impl Write, row: Row, data: &[u8]) -> io::Result<()> {
+    text(out, b"buffer")?;
+    numbers(out, row, 5)?;
     let at = row.a as usize;
-    located(first(data, at), rest(data, at), row);
-    text(b"\n");
+    located(out, first(data, at), rest(data, at), row)?;
+    text(out, b"\n")
 }

@@ -1,32 +1,27 @@
 // Rows about unified vertices.
 use crate::buffers::{long_output, output};
 use crate::declarations::declared;
+use std::io::{self, Write};
 use testing::{Row, bytes, checksum, first, number, numbers, rest, text};
 use vertices::UnifyAnswer;
 
-fn answer(a: UnifyAnswer) {
+fn answer(out: &mut impl Write, a: UnifyAnswer) -> io::Result<()> {
     match a {
-        UnifyAnswer::Written(n) => {
-            text(b" written");
-            number(n);
-        }
-        UnifyAnswer::OutsideData => text(b" outside"),
-        UnifyAnswer::NeedsBytes(n) => {
-            text(b" needs");
-            number(n);
-        }
+        UnifyAnswer::Written(n) => write!(out, " written {n:x}"),
+        UnifyAnswer::OutsideData => text(out, b" outside"),
+        UnifyAnswer::NeedsBytes(n) => write!(out, " needs {n:x}"),
     }
 }
 
 // unified_vertices into the first n bytes.
-fn unify_first(row: Row, data: &[u8], out: &mut [u8], n: usize) -> UnifyAnswer {
-    if n <= out.len() {
+fn unify_first(row: Row, data: &[u8], to: &mut [u8], n: usize) -> UnifyAnswer {
+    if n <= to.len() {
         return vertices::unified_vertices(
             data,
             (row.a % 65536) as u16,
             (row.b % 4294967296) as u32,
             declared(row.c, row.d),
-            &mut out[..n],
+            &mut to[..n],
         );
     }
     UnifyAnswer::NeedsBytes(0)
@@ -34,23 +29,23 @@ fn unify_first(row: Row, data: &[u8], out: &mut [u8], n: usize) -> UnifyAnswer {
 
 // unified_vertices, of data with stride a and b vertices, by a declaration of flags c and types d, into an output of e bytes,
 // at most 512. Prints the checksum of all 512 bytes that the output was lent of, and its first 100 bytes.
-pub fn unify_row(row: Row, data: &[u8]) {
-    let mut out = output();
-    text(b"unify");
-    numbers(row, 5);
-    answer(unify_first(row, data, &mut out, row.e as usize));
-    number(checksum(&out));
-    bytes(first(&out, 100));
-    text(b"\n");
+pub fn unify_row(out: &mut impl Write, row: Row, data: &[u8]) -> io::Result<()> {
+    let mut to = output();
+    text(out, b"unify")?;
+    numbers(out, row, 5)?;
+    answer(out, unify_first(row, data, &mut to, row.e as usize))?;
+    number(out, checksum(&to))?;
+    bytes(out, first(&to, 100))?;
+    text(out, b"\n")
 }
 
 // unified_vertices as above, into an output of several blocks of vertices. Prints the checksum of all its bytes, and its last 88 bytes.
-pub fn unify_many_row(row: Row, data: &[u8]) {
-    let mut out = long_output();
-    text(b"unify many");
-    numbers(row, 4);
-    answer(unify_first(row, data, &mut out, 12352));
-    number(checksum(&out));
-    bytes(rest(&out, 12264));
-    text(b"\n");
+pub fn unify_many_row(out: &mut impl Write, row: Row, data: &[u8]) -> io::Result<()> {
+    let mut to = long_output();
+    text(out, b"unify many")?;
+    numbers(out, row, 4)?;
+    answer(out, unify_first(row, data, &mut to, 12352))?;
+    number(out, checksum(&to))?;
+    bytes(out, rest(&to, 12264))?;
+    text(out, b"\n")
 }

@@ -1,71 +1,73 @@
 // Rows about attribute values, seen as vectors and colours.
 use crate::names;
+use std::io::{self, Write};
 use testing::{Row, number, numbers, text};
 use vertices::{Bytes4, F32, Vec2, Vec3, Vec4, VertexAttributeValue, VertexComponentType};
 
-fn vec2(v: Vec2) {
-    number(v.x.bits as u64);
-    number(v.y.bits as u64);
+fn vec2(out: &mut impl Write, v: Vec2) -> io::Result<()> {
+    write!(out, " {:x} {:x}", v.x.bits, v.y.bits)
 }
 
-fn vec3(v: Vec3) {
-    number(v.x.bits as u64);
-    number(v.y.bits as u64);
-    number(v.z.bits as u64);
+fn vec3(out: &mut impl Write, v: Vec3) -> io::Result<()> {
+    write!(out, " {:x} {:x} {:x}", v.x.bits, v.y.bits, v.z.bits)
 }
 
-fn vec4(v: Vec4) {
-    number(v.x.bits as u64);
-    number(v.y.bits as u64);
-    number(v.z.bits as u64);
-    number(v.w.bits as u64);
+fn vec4(out: &mut impl Write, v: Vec4) -> io::Result<()> {
+    write!(
+        out,
+        " {:x} {:x} {:x} {:x}",
+        v.x.bits, v.y.bits, v.z.bits, v.w.bits
+    )
 }
 
-fn bytes4(b: Bytes4) {
-    number(b.a as u64);
-    number(b.b as u64);
-    number(b.c as u64);
-    number(b.d as u64);
+fn bytes4(out: &mut impl Write, b: Bytes4) -> io::Result<()> {
+    write!(out, " {:x} {:x} {:x} {:x}", b.a, b.b, b.c, b.d)
 }
 
-pub fn value(v: VertexAttributeValue) {
+pub fn value(out: &mut impl Write, v: VertexAttributeValue) -> io::Result<()> {
     match v {
         VertexAttributeValue::One(f) => {
-            text(b" one");
-            number(f.bits as u64);
+            text(out, b" one")?;
+            number(out, f.bits as u64)
         }
         VertexAttributeValue::Two(v) => {
-            text(b" two");
-            vec2(v);
+            text(out, b" two")?;
+            vec2(out, v)
         }
         VertexAttributeValue::Three(v) => {
-            text(b" three");
-            vec3(v);
+            text(out, b" three")?;
+            vec3(out, v)
         }
         VertexAttributeValue::Four(v) => {
-            text(b" four");
-            vec4(v);
+            text(out, b" four")?;
+            vec4(out, v)
         }
         VertexAttributeValue::Bytes(b) => {
-            text(b" bytes");
-            bytes4(b);
+            text(out, b" bytes")?;
+            bytes4(out, b)
         }
-        VertexAttributeValue::Unsupported => text(b" unsupported"),
+        VertexAttributeValue::Unsupported => text(out, b" unsupported"),
     }
 }
 
 // A value as vectors of two, three and four, the last also without its w, and as a colour.
-pub fn views(two: Vec2, three: Vec3, four: Vec4, colour: Bytes4) {
-    text(b" vec2");
-    vec2(two);
-    text(b" vec3");
-    vec3(three);
-    text(b" vec4");
-    vec4(four);
-    text(b" xyz");
-    vec3(four.xyz());
-    text(b" rgba8");
-    bytes4(colour);
+pub fn views(
+    out: &mut impl Write,
+    two: Vec2,
+    three: Vec3,
+    four: Vec4,
+    colour: Bytes4,
+) -> io::Result<()> {
+    text(out, b" vec2")?;
+    vec2(out, two)?;
+    text(out, b" vec3")?;
+    vec3(out, three)?;
+    text(out, b" vec4")?;
+    vec4(out, four)?;
+    text(out, b" xyz")?;
+    vec3(out, four.xyz())?;
+    text(out, b" rgba8")?;
+    bytes4(out, colour)
 }
 
 fn float_in(raw: &[u8], off: usize) -> F32 {
@@ -120,18 +122,19 @@ pub fn value_in(raw: &[u8], shape: u64) -> VertexAttributeValue {
 }
 
 // as_vec2, as_vec3, as_vec4 and as_rgba8, of the type a and a value of shape b.
-pub fn seen_row(row: Row, data: &[u8]) {
+pub fn seen_row(out: &mut impl Write, row: Row, data: &[u8]) -> io::Result<()> {
     let t = VertexComponentType::from_nibble((row.a % 256) as u8);
     let v = value_in(data, row.b);
-    text(b"seen");
-    numbers(row, 2);
-    names::component_type(t);
-    value(v);
+    text(out, b"seen")?;
+    numbers(out, row, 2)?;
+    names::component_type(out, t)?;
+    value(out, v)?;
     views(
+        out,
         v.as_vec2(),
         v.as_vec3(),
         v.as_vec4(),
         vertices::as_rgba8(t, v),
-    );
-    text(b"\n");
+    )?;
+    text(out, b"\n")
 }

@@ -80,11 +80,8 @@ fn six_in(more: &[u8], at: usize) -> [u32; 6] {
     ]
 }
 
-fn first_words<'a>(words: &'a [u32], n: usize) -> &'a [u32] {
-    if n < words.len() {
-        return &words[..n];
-    }
-    words
+fn first_words(words: &[u32], n: usize) -> &[u32] {
+    &words[..n.min(words.len())]
 }
 
 // The first of six indices, as many as the first number says.
@@ -118,8 +115,7 @@ fn added_geometry(hall: &mut [u8], n: usize, row: Row, more: &[u8]) -> Answer {
 // 5 add_model, with binding c and mask d; 6 remove_model, of model c; 7 remove_geometry, of geometry d of model c; 11 replace_indices, of the same;
 // 12 add_geometry, with shader c, stride d and count e; else set_attribute, in vertex e of geometry d of model c.
 fn called(hall: &mut [u8], n: usize, row: Row, more: &[u8]) -> Answer {
-    let kind = row.kind;
-    match kind {
+    match row.kind {
         5 => added_model(hall, n, row),
         6 => halls::remove_model(hall, n, row.c),
         7 => halls::remove_geometry(hall, n, row.c, row.d),

@@ -1,37 +1,38 @@
 // How the line about a call ends.
 use halls::{Answer, Refusal};
+use std::io::{self, Write};
 use testing::{bytes, checksum, first, number, text};
 
 // The length written, and the checksum of the whole buffer that a part was lent of.
-pub fn accepted(length: u64, b: &[u8]) {
-    text(b" accepted");
-    number(length);
-    number(checksum(b));
+pub fn accepted(out: &mut impl Write, length: u64, b: &[u8]) -> io::Result<()> {
+    text(out, b" accepted")?;
+    number(out, length)?;
+    number(out, checksum(b))
 }
 
 // The question's number, the needed bytes, and the checksum.
-pub fn refused(refusal: Refusal, b: &[u8]) {
-    text(b" refused");
-    number(refusal.check as u64);
-    text(b" needed");
-    number(refusal.needed);
-    number(checksum(b));
+pub fn refused(out: &mut impl Write, refusal: Refusal, b: &[u8]) -> io::Result<()> {
+    text(out, b" refused")?;
+    number(out, refusal.check as u64)?;
+    text(out, b" needed")?;
+    number(out, refusal.needed)?;
+    number(out, checksum(b))
 }
 
 // The same of either answer, and of an accepted list its triangles, and its bytes where they are at most 256.
-pub fn answered(answer: Answer, list: &[u8]) {
+pub fn answered(out: &mut impl Write, answer: Answer, list: &[u8]) -> io::Result<()> {
     match answer {
         Answer::Accepted(length) => {
-            accepted(length, list);
+            accepted(out, length, list)?;
             let written = first(list, length as usize);
-            number(halls::triangle_count(written));
+            number(out, halls::triangle_count(written))?;
             if length <= 256 {
-                bytes(written);
+                bytes(out, written)?;
             }
         }
-        Answer::Refused(refusal) => refused(refusal, list),
+        Answer::Refused(refusal) => refused(out, refusal, list)?,
     }
-    text(b"\n");
+    text(out, b"\n")
 }
 
 // The answer where a row asks for a longer part of a buffer than there is.

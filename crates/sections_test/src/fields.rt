@@ -1,5 +1,6 @@
 // Rows about little-endian fields: of width a, in a buffer of b bytes, at most 64, at offset c.
 use crate::buffers::section;
+use std::io::{self, Write};
 use testing::{Row, bytes, done, first, number, numbers, text};
 
 fn read(b: &[u8], width: u64, off: usize) -> u64 {
@@ -11,12 +12,15 @@ fn read(b: &[u8], width: u64, off: usize) -> u64 {
     }
 }
 
-pub fn read_row(row: Row) {
+pub fn read_row(out: &mut impl Write, row: Row) -> io::Result<()> {
     let buffer = section(129);
-    text(b"read");
-    numbers(row, 3);
-    number(read(first(&buffer, row.b as usize), row.a, row.c as usize));
-    text(b"\n");
+    text(out, b"read")?;
+    numbers(out, row, 3)?;
+    number(
+        out,
+        read(first(&buffer, row.b as usize), row.a, row.c as usize),
+    )?;
+    text(out, b"\n")
 }
 
 fn write(b: &mut [u8], width: u64, off: usize, v: u64) -> bool {
@@ -30,18 +34,18 @@ fn write(b: &mut [u8], width: u64, off: usize, v: u64) -> bool {
 
 // The same in the first n bytes.
 fn write_first(b: &mut [u8], n: usize, width: u64, off: usize, v: u64) -> bool {
-    if n <= b.len() {
-        return write(&mut b[..n], width, off, v);
-    }
-    false
+    n <= b.len() && write(&mut b[..n], width, off, v)
 }
 
 // Writes the lowest bytes of d, and prints all 64 bytes of the buffer that the first b were lent of.
-pub fn write_row(row: Row) {
+pub fn write_row(out: &mut impl Write, row: Row) -> io::Result<()> {
     let mut buffer = section(129);
-    text(b"write");
-    numbers(row, 4);
-    done(write_first(&mut buffer, row.b as usize, row.a, row.c as usize, row.d));
-    bytes(&buffer);
-    text(b"\n");
+    text(out, b"write")?;
+    numbers(out, row, 4)?;
+    done(
+        out,
+        write_first(&mut buffer, row.b as usize, row.a, row.c as usize, row.d),
+    )?;
+    bytes(out, &buffer)?;
+    text(out, b"\n")
 }

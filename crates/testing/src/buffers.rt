@@ -1,45 +1,57 @@
 // Parts of buffers, their first content, and their checksum.
-ghost use Rattle.std.specs.Prelude.{◌≡◌, ◌<◌, length};
+ghost use Rattle.std.specs.Prelude.{◌≡◌, ◌<◌, ◌≤◌, length, IfOk};
 
-use libc::STDIN_FILENO;
+use std::io::{self, Read};
 
 // The first n bytes, or all of them where there are fewer.
-pub fn first<'a>(b: &'a [u8], n: usize) -> &'a [u8] {
-    if n < b.len() {
-        return &b[..n];
-    }
-    b
+pub fn first(b: &[u8], n: usize) -> &[u8] {
+    &b[..n.min(b.len())]
 }
 
 // The bytes from n on, none where there are fewer.
-pub fn rest<'a>(b: &'a [u8], n: usize) -> &'a [u8] {
-    if n < b.len() {
-        return &b[n..];
-    }
-    first(b, 0)
+pub fn rest(b: &[u8], n: usize) -> &[u8] {
+    &b[n.min(b.len())..]
 }
 
-// Fills the first n bytes from standard input, where there are so many.
-pub fn read_first(b: &mut [u8], n: usize) {
-    if n <= b.len() {
-        io::read_full(STDIN_FILENO, &mut b[..n]);
+// Reads until the buffer is full or the input ends, and answers how many bytes came. One read may bring fewer than were
+// asked for.
+pub fn read_full(input: &mut impl Read, b: &mut [u8]) -> io::Result<usize>
+    ensures bound { IfOk result (λ n. n ≤ length b.new) }
+    ensures len { length b.new ≡ length b.old }
+{
+    let mut done = 0;
+    while done < b.len() {
+        let n = input.read(&mut b[done..])?;
+        if n == 0 {
+            break;
+        }
+        done += n;
     }
+    Ok(done)
+}
+
+// Fills the first n bytes from the input, where the buffer has so many. Where the input has fewer, the others stay as
+// they were.
+pub fn read_first(input: &mut impl Read, b: &mut [u8], n: usize) -> io::Result<()> {
+    if n <= b.len() {
+        read_full(input, &mut b[..n])?;
+    }
+    Ok(())
 }
 
 // Bytes that repeat neither after 256 nor after 4,096 of them, but after 65,536.
 pub fn fill(b: &mut [u8], seed: u8)
     ensures { length b.new ≡ length b.old }
 {
-    let mut i = 0;
-    while i < b.len() {
+    for i in 0..b.len() {
         let k = i % 65536;
         b[i] = ((k * 167 + k / 251 + seed as usize) % 256) as u8;
-        i += 1;
     }
 }
 
 pub fn wide(b: u8) -> u64
-    ensures { (result ≡ b) × (result < 256) }
+    ensures value { result ≡ b }
+    ensures bound { result < 256 }
 {
     b as u64
 }
@@ -47,10 +59,8 @@ pub fn wide(b: u8) -> u64
 // The bytes as the digits of a number in base 257, modulo the prime 2^55 - 55.
 pub fn checksum(b: &[u8]) -> u64 {
     let mut sum: u64 = 0;
-    let mut i = 0;
-    while i < b.len() {
-        sum = (sum * 257 + wide(b[i])) % 36028797018963913;
-        i += 1;
+    for byte in b {
+        sum = (sum * 257 + wide(*byte)) % 36028797018963913;
     }
     sum
 }

@@ -5,6 +5,6 @@ mod buffers;
 mod print;
 mod rows;
 
-pub use buffers::{checksum, fill, first, read_first, rest};
+pub use buffers::{checksum, fill, first, read_first, read_full, rest};
 pub use print::{bytes, done, number, text};
 pub use rows::{Row, numbers, row_in};

@@ -1,32 +1,29 @@
 // What a line is made of.
-use crate::buffers::wide;
-use libc::STDOUT_FILENO;
+use std::io::{self, Write};
 
-pub fn text(words: &[u8]) {
-    io::write_all(STDOUT_FILENO, words);
+pub fn text(out: &mut impl Write, words: &[u8]) -> io::Result<()> {
+    out.write_all(words)
 }
 
 // A space and the number, in hexadecimal.
-pub fn number(n: u64) {
-    text(b" ");
-    io::print_hex(STDOUT_FILENO, n, 1);
+pub fn number(out: &mut impl Write, n: u64) -> io::Result<()> {
+    write!(out, " {n:x}")
 }
 
 // How a line about an edit ends.
-pub fn done(answer: bool) {
+pub fn done(out: &mut impl Write, answer: bool) -> io::Result<()> {
     if answer {
-        text(b" done");
+        text(out, b" done")
     } else {
-        text(b" refused");
+        text(out, b" refused")
     }
 }
 
 // A space and the bytes, two digits each.
-pub fn bytes(b: &[u8]) {
-    text(b" ");
-    let mut i = 0;
-    while i < b.len() {
-        io::print_hex(STDOUT_FILENO, wide(b[i]), 2);
-        i += 1;
+pub fn bytes(out: &mut impl Write, b: &[u8]) -> io::Result<()> {
+    text(out, b" ")?;
+    for byte in b {
+        write!(out, "{byte:02x}")?;
     }
+    Ok(())
 }

@@ -1,5 +1,6 @@
 // What a test program is asked.
 use crate::print::{number, text};
+use std::io::{self, Write};
 
 // What is called, and the numbers that it is called with.
 #[derive(Clone, Copy)]
@@ -25,19 +26,19 @@ pub fn row_in(raw: &[u8]) -> Row {
 }
 
 // The first `count` numbers that a call takes.
-pub fn numbers(row: Row, count: u8) {
-    number(row.a);
+pub fn numbers(out: &mut impl Write, row: Row, count: u8) -> io::Result<()> {
+    number(out, row.a)?;
     if 1 < count {
-        number(row.b);
+        number(out, row.b)?;
     }
     if 2 < count {
-        number(row.c);
+        number(out, row.c)?;
     }
     if 3 < count {
-        number(row.d);
+        number(out, row.d)?;
     }
     if 4 < count {
-        number(row.e);
+        number(out, row.e)?;
     }
-    text(b":");
+    text(out, b":")
 }

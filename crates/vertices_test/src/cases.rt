@@ -43,15 +43,15 @@ fn half(index: u64) -> u16 {
 // Float bits near a half: one below, at and one above its own, and the same around the middle of the way to the next half.
 fn near(half: u16, which: u64) -> u32 {
     let own = vertices::f16_to_f32(half);
-    let next = vertices::f16_to_f32(std::num::wrapping_add_u16(half, 1));
+    let next = vertices::f16_to_f32(half.wrapping_add(1));
     let middle = own / 2 + next / 2;
     match which {
-        0 => std::num::wrapping_sub_u32(own, 1),
+        0 => own.wrapping_sub(1),
         1 => own,
-        2 => std::num::wrapping_add_u32(own, 1),
-        3 => std::num::wrapping_sub_u32(middle, 1),
+        2 => own.wrapping_add(1),
+        3 => middle.wrapping_sub(1),
         4 => middle,
-        _ => std::num::wrapping_add_u32(middle, 1),
+        _ => middle.wrapping_add(1),
     }
 }
 

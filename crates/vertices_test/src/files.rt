@@ -2,7 +2,10 @@
 ghost use Rattle.std.specs.Prelude.{◌≡◌, length};
 
 use crate::cases::{Case, Kind, case_of, width};
-use libc::STDOUT_FILENO;
+use std::fs;
+use std::io::{self, Read, Write};
+use std::rt::Files;
+use testing::read_full;
 
 // A whole number of records of every kind: a multiple of 84.
 const CHUNK: usize = 65_520;
@@ -14,43 +17,42 @@ struct Tally {
 }
 
 // The first disagreement, in hexadecimal.
-fn differs(name: &[u8], c: Case) {
-    io::write_all(STDOUT_FILENO, name);
-    io::write_all(STDOUT_FILENO, b" differs: input ");
-    io::print_hex(STDOUT_FILENO, c.input as u64, 1);
-    io::write_all(STDOUT_FILENO, b" expected ");
-    io::print_hex(STDOUT_FILENO, c.expected as u64, 1);
-    io::write_all(STDOUT_FILENO, b" got ");
-    io::print_hex(STDOUT_FILENO, c.got as u64, 1);
-    io::write_all(STDOUT_FILENO, b"\n");
+fn differs(out: &mut impl Write, name: &str, c: Case) -> io::Result<()> {
+    writeln!(
+        out,
+        "{name} differs: input {:x} expected {:x} got {:x}",
+        c.input, c.expected, c.got
+    )
 }
 
-fn counted(name: &[u8], t: Tally, c: Case) -> Tally {
-    let records = std::num::wrapping_add_u64(t.records, 1);
+fn counted(out: &mut impl Write, name: &str, t: Tally, c: Case) -> io::Result<Tally> {
+    let records = t.records.wrapping_add(1);
     if c.expected == c.got {
-        return Tally {
+        return Ok(Tally {
             records,
-            agree: std::num::wrapping_add_u64(t.agree, 1),
-        };
+            agree: t.agree.wrapping_add(1),
+        });
     }
     if t.agree == t.records {
-        differs(name, c);
+        differs(out, name, c)?;
     }
-    Tally {
+    Ok(Tally {
         records,
         agree: t.agree,
-    }
+    })
 }
 
-fn compare_chunk(kind: Kind, name: &[u8], t: Tally, chunk: &[u8]) -> Tally {
-    let step = width(kind);
-    let mut t = t;
-    let mut at = 0;
-    while step <= chunk.len() - at {
-        t = counted(name, t, case_of(kind, t.records, &chunk[at..at + step]));
-        at += step;
+fn compare_chunk(
+    out: &mut impl Write,
+    kind: Kind,
+    name: &str,
+    mut t: Tally,
+    chunk: &[u8],
+) -> io::Result<Tally> {
+    for record in chunk.chunks_exact(width(kind)) {
+        t = counted(out, name, t, case_of(kind, t.records, record))?;
     }
-    t
+    Ok(t)
 }
 
 fn chunk() -> [u8; CHUNK]
@@ -59,42 +61,51 @@ fn chunk() -> [u8; CHUNK]
     [0; CHUNK]
 }
 
-fn compare_some(kind: Kind, name: &[u8], t: Tally, fd: i32) -> Tally {
+fn compare_some(
+    out: &mut impl Write,
+    kind: Kind,
+    name: &str,
+    t: Tally,
+    file: &mut impl Read,
+) -> io::Result<Tally> {
     let mut bytes = chunk();
-    let n = io::read_full(fd, &mut bytes);
-    compare_chunk(kind, name, t, &bytes[..n])
+    let n = read_full(file, &mut bytes)?;
+    compare_chunk(out, kind, name, t, &bytes[..n])
 }
 
-// Reads until a read brings no record. The count falls at each turn, since nothing says that a file ends.
-fn compare_all(kind: Kind, name: &[u8], fd: i32) -> Tally {
+// Reads until a read brings no record. The turns are counted, since nothing says that a file ends.
+fn compare_all(
+    out: &mut impl Write,
+    kind: Kind,
+    name: &str,
+    file: &mut impl Read,
+) -> io::Result<Tally> {
     let mut t = Tally {
         records: 0,
         agree: 0,
     };
-    let mut turns = u64::MAX;
-    while turns > 0 {
+    for _ in 0..u64::MAX {
         let before = t.records;
-        t = compare_some(kind, name, t, fd);
+        t = compare_some(out, kind, name, t, file)?;
         if t.records == before {
-            return t;
+            break;
         }
-        turns -= 1;
     }
-    t
+    Ok(t)
 }
 
-pub fn compare(kind: Kind, name: &[u8], path: &[u8]) {
-    let fd = os::open_read(path);
-    if fd < 0 {
-        os::fail(path);
-        return;
-    }
-    let t = compare_all(kind, name, fd);
-    libc::close(fd);
-    io::write_all(STDOUT_FILENO, name);
-    io::write_all(STDOUT_FILENO, b": ");
-    io::print_decimal(STDOUT_FILENO, t.agree);
-    io::write_all(STDOUT_FILENO, b" of ");
-    io::print_decimal(STDOUT_FILENO, t.records);
-    io::write_all(STDOUT_FILENO, b" agree\n");
+// A file that does not open is reported on standard error, and no line is printed for it.
+pub fn compare(
+    rt: &(impl Files + Eprint),
+    out: &mut impl Write,
+    kind: Kind,
+    name: &str,
+    path: &str,
+) -> io::Result<()> {
+    let mut file = match fs::open(rt, path) {
+        Ok(file) => file,
+        Err(e) => return eprintln!(rt; "{path}: {e}"),
+    };
+    let t = compare_all(out, kind, name, &mut file)?;
+    writeln!(out, "{name}: {} of {} agree", t.agree, t.records)
 }

@@ -7,18 +7,30 @@ mod files;
 
 use cases::Kind;
 use files::compare;
-use libc::STDOUT_FILENO;
+use std::io::{self, BufWriter, Write};
 
-fn main() {
-    compare(Kind::Halves, b"halves", b"halves.bin");
-    compare(Kind::Neighbours, b"neighbours", b"neighbours.bin");
-    compare(Kind::HalfColours, b"half_colours", b"half_colours.bin");
-    compare(Kind::Floats, b"floats", b"floats.bin");
-    compare(Kind::Colours, b"colours", b"colours.bin");
-    compare(Kind::Snorm, b"snorm", b"snorm.bin");
-    compare(Kind::Unorm, b"unorm", b"unorm.bin");
-    io::write_all(STDOUT_FILENO, b"snorm byte 0 as colour: ");
+fn main(rt: HostRuntime) -> io::Result<()> {
+    let mut out = BufWriter::new(rt.alloc(), io::writer(&rt))?;
+    compare(&rt, &mut out, Kind::Halves, "halves", "halves.bin")?;
+    compare(
+        &rt,
+        &mut out,
+        Kind::Neighbours,
+        "neighbours",
+        "neighbours.bin",
+    )?;
+    compare(
+        &rt,
+        &mut out,
+        Kind::HalfColours,
+        "half_colours",
+        "half_colours.bin",
+    )?;
+    compare(&rt, &mut out, Kind::Floats, "floats", "floats.bin")?;
+    compare(&rt, &mut out, Kind::Colours, "colours", "colours.bin")?;
+    compare(&rt, &mut out, Kind::Snorm, "snorm", "snorm.bin")?;
+    compare(&rt, &mut out, Kind::Unorm, "unorm", "unorm.bin")?;
     let colour = vertices::snorm_colour8(vertices::snorm8_to_f32(0));
-    io::print_decimal(STDOUT_FILENO, colour as u64);
-    io::write_all(STDOUT_FILENO, b"\n");
+    writeln!(out, "snorm byte 0 as colour: {colour}")?;
+    out.flush()
 }
