@@ -6,7 +6,7 @@
 
       cc app.c libexports.a -Iinclude
 
-   libexports.a is the static library of these functions; `rt staticlib exports` in the repository's root writes it to target/staticlib. It needs nothing
+   libexports.a is the static library of these functions; the repository's tools/library proves it and writes it to target/staticlib. It needs nothing
    beside the C library. include/example.c is such an app.c.
 
    A slice is two arguments, a pointer and the number of its elements, which are bytes, or for indices uint32_t. The pointer must point to that

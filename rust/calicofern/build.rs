@@ -1,15 +1,19 @@
 //! Links the proved static library, and has it built where it is missing or older than its sources.
 //!
-//! The archive is target/staticlib/libexports.a of the repository, written by `rt staticlib exports`. CALICOFERN_ARCHIVE names another archive of
+//! The archive is target/staticlib/libexports.a of the repository, written by its script tools/library. CALICOFERN_ARCHIVE names another archive of
 //! that library, for a machine without the Rattle kit; a relative path is taken from the folder in which cargo was started.
 
 use std::path::{Path, PathBuf};
 use std::process::{exit, Command};
 use std::time::SystemTime;
-use std::{env, fs, io};
+use std::{env, fs};
 
 /// The crate of the C functions, as crates.txt names it.
 const LIBRARY: &str = "exports";
+/// The script of the repository that proves it and writes its archive.
+const SCRIPT: &str = "tools/library";
+/// The script's exit status where there is no `rt` on the PATH.
+const NO_KIT: i32 = 127;
 
 fn main() {
     println!("cargo:rerun-if-env-changed=CALICOFERN_ARCHIVE");
@@ -64,7 +68,7 @@ fn built_archive() -> PathBuf {
         _ => prove(&root),
     }
     if !archive.is_file() {
-        stop(&format!("'rt staticlib {LIBRARY}' ended well but wrote no target/staticlib/lib{LIBRARY}.a"));
+        stop(&format!("{SCRIPT} ended well but wrote no target/staticlib/lib{LIBRARY}.a"));
     }
     archive
 }
@@ -78,12 +82,12 @@ fn repository() -> PathBuf {
     }
 }
 
-/// The crate of the C functions and those of the repository that it stands on, from crates.txt: lines of a name, a colon and names.
+/// The crate of the C functions and those of the repository that it stands on, from its line in crates.txt: a name, the word `staticlib`, a colon and names.
 fn libraries(root: &Path) -> Vec<String> {
     let text = fs::read_to_string(root.join("crates.txt")).unwrap_or_else(|error| stop(&format!("crates.txt: {error}")));
-    let line = text.lines().find_map(|line| line.strip_prefix(LIBRARY)?.strip_prefix(':'));
+    let line = text.lines().find_map(|line| line.strip_prefix(LIBRARY)?.strip_prefix(" staticlib:"));
     let Some(below) = line else {
-        stop(&format!("crates.txt does not list the crate '{LIBRARY}', whose functions this crate calls"));
+        stop(&format!("crates.txt does not list the static library '{LIBRARY}', whose functions this crate calls"));
     };
     let mut names: Vec<String> = below.split_whitespace().map(String::from).collect();
     names.push(LIBRARY.to_string());
@@ -107,20 +111,20 @@ fn newest_in(folder: &Path) -> SystemTime {
 
 /// Has the library proved and its archive written.
 fn prove(root: &Path) {
-    match Command::new("rt").args(["staticlib", LIBRARY]).current_dir(root).output() {
+    match Command::new(root.join(SCRIPT)).output() {
         Ok(done) if done.status.success() => {}
+        Ok(done) if done.status.code() == Some(NO_KIT) => stop(&format!(
+            "target/staticlib/lib{LIBRARY}.a is missing or older than its sources, and the Rattle kit that builds it is not installed (no 'rt' on the \
+             PATH). Install the kit, or set CALICOFERN_ARCHIVE to a lib{LIBRARY}.a that was built elsewhere"
+        )),
         Ok(done) => {
             let said = format!("{}{}", String::from_utf8_lossy(&done.stdout), String::from_utf8_lossy(&done.stderr));
             for line in said.lines().filter(|line| !line.ends_with(": proved")) {
                 eprintln!("{line}");
             }
-            stop(&format!("'rt staticlib {LIBRARY}' in the repository's root ended with {}; what it said stands above", done.status));
+            stop(&format!("{SCRIPT} of the repository ended with {}; what it said stands above", done.status));
         }
-        Err(error) if error.kind() == io::ErrorKind::NotFound => stop(&format!(
-            "target/staticlib/lib{LIBRARY}.a is missing or older than its sources, and the Rattle kit that builds it is not installed (no 'rt' on the \
-             PATH). Install the kit, or set CALICOFERN_ARCHIVE to a lib{LIBRARY}.a that was built elsewhere"
-        )),
-        Err(error) => stop(&format!("'rt staticlib {LIBRARY}' could not be started: {error}")),
+        Err(error) => stop(&format!("{SCRIPT} of the repository could not be started: {error}")),
     }
 }
 

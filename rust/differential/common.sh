@@ -8,7 +8,7 @@ export CARGO_TARGET_DIR=${CARGO_TARGET_DIR:-$here/target}
 # The static library, proved and built where it is not there yet.
 need_library() {
     if [ ! -f "$CALICOFERN_LIB/libexports.a" ]; then
-        (cd "$root" && rt staticlib exports | tail -n 1)
+        "$root/tools/library" | tail -n 1
     fi
 }
 

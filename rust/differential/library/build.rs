@@ -1,4 +1,4 @@
-//! Links the static library that `rt staticlib exports` makes. CALICOFERN_LIB names another folder that holds it.
+//! Links the static library that tools/library makes. CALICOFERN_LIB names another folder that holds it.
 use std::env;
 use std::path::{Path, PathBuf};
 
