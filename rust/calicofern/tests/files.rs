@@ -2,7 +2,7 @@
 
 mod program;
 
-use program::{command, failed, folder, hall, large_hall, names, one_line, path, printed};
+use program::{command, failed, folder, hall, large_hall, names, one_line, path, printed, remove};
 use std::fs;
 use std::os::unix::fs::{symlink, MetadataExt, PermissionsExt};
 use std::os::unix::process::ExitStatusExt;
@@ -199,6 +199,7 @@ fn a_replaced_file_keeps_what_it_had() {
     assert_eq!((done.status.code(), one_line(&done).ends_with("by no name of its own")), (Some(2), true));
     assert!(printed(&["check", &image]).contains("3 models, 4 geometries"));
     assert_eq!(names(&folder), ["image.system", "later.hall", "link.hall", "real.hall", "to-later.hall"]);
+    remove(&folder);
 }
 
 /// An output that is also an input, by whatever name, is refused, and stays as it was.
@@ -237,6 +238,7 @@ fn no_input_is_written_over() {
     assert_eq!((status, said.contains("are one file: two things cannot be written to it")), (2, true), "{said}");
     assert!((fs::read(&file).unwrap(), fs::read(&section).unwrap()) == before);
     assert_eq!(names(&folder), ["a.hall", "d.system", "hard", "soft"]);
+    remove(&folder);
 }
 
 #[test]

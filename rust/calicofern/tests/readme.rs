@@ -2,7 +2,7 @@
 
 mod program;
 
-use program::folder;
+use program::{folder, remove};
 use std::os::unix::fs::symlink;
 use std::path::Path;
 use std::process::Command;
@@ -39,4 +39,5 @@ fn the_readmes_commands_run() {
     for line in shown.iter().skip(1).filter(|line| !line.starts_with("./hall")) {
         assert!(listed.lines().any(|printed| printed.trim_end() == line.trim_end()), "{line}\n{listed}");
     }
+    remove(&folder);
 }

@@ -82,6 +82,13 @@ impl Folder {
     }
 }
 
+/// Some tests make links, and the gate of the repository takes no link below its folders.
+impl Drop for Folder {
+    fn drop(&mut self) {
+        let _ = fs::remove_dir_all(&self.0);
+    }
+}
+
 const BEFORE: [f32; 3] = [20.0, 0.0, 0.0];
 const AFTER: [f32; 3] = [22.0, 0.0, 0.0];
 

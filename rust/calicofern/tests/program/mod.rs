@@ -52,6 +52,11 @@ pub fn folder(name: &str) -> PathBuf {
     folder
 }
 
+/// Removes a folder in which a test made links: the gate of the repository takes no link below its folders.
+pub fn remove(folder: &Path) {
+    std::fs::remove_dir_all(folder).unwrap();
+}
+
 pub fn path(folder: &Path, name: &str) -> String {
     folder.join(name).display().to_string()
 }
