@@ -1,12 +1,13 @@
 -- The places in a hall: what is sought in its list stands where they say.
 use mathlib.Core.Path.{◌≡◌, refl, sym, ap, ◌∙◌}
-use mathlib.Core.List.{List, [], ◌∷◌, ◌++◌, map, append_assoc, append-nil}
+use mathlib.Core.List.{List, [], ◌∷◌, ◌++◌, map, append_assoc}
 use mathlib.Core.Option
-use mathlib.Core.Option.{Option, none, some, get_or}
+use mathlib.Core.Option.{Option, none, some}
 use Prim.Native.Nat.{ℕ, zero, suc, ◌+◌, ◌*◌, ◌-◌, ◌≤◌, ◌<◌}
+use native.Mathlib.Numerals.{add-one}
 use native.Mathlib.Omega.{arith}
-use lib.ListN.{length, take, drop, length-append, length-drop, take-append-drop, drop_of_length-le}
-use lib.Seq.{drop-nil}
+use lib.ListN.{length, take, drop, get_or, length-append, length-drop, take-append-drop}
+use lib.Seq.{take-suc, drop-cons, drop-nil}
 use Rattle.sections.specs.Le.{field}
 use Rattle.vertices.specs.Declaration.{declaration_bytes}
 use Rattle.vertices.proofs.DeclarationLaws.{declaration_length_lem}
@@ -15,10 +16,9 @@ use Rattle.halls.specs.Hall.{FullGeometry, FullModel, Hall, listed_geometry, lis
 use Rattle.halls.specs.Inner.HallRecords.{of_kind, geometries_records, hall_records}
 use Rattle.halls.specs.Parsing.{records_length}
 use Rattle.halls.specs.Records.{Record, records}
-use Rattle.halls.specs.Inner.Seeking.{place_of, sought, Marked, Near}
+use Rattle.halls.specs.Inner.Seeking.{place_of, sought, model_end}
 use Rattle.halls.specs.Places.{item, model_place, geometry_place, found_model, found_geometry}
 use Rattle.halls.specs.declared.check.find.FoundModel.TheVariants.{At as ModelAt, Absent as NoModel}
-use Rattle.halls.specs.declared.check.pass.Mark.{Mark}
 use Rattle.halls.specs.declared.check.find.FoundGeometry.TheVariants.{At as GeometryAt, Absent as NoGeometry}
 use Rattle.halls.proofs.format.BodyLaws.{model_body-length, geometry_body-length, vertices_body-length}
 use Rattle.halls.proofs.format.RecordBytes.{hall-length}
@@ -82,6 +82,12 @@ place-model (x ∷ h) (suc m) at =
     ∙ past-geometries x.geometries (hall_records h) m (at + 6 + n) ∙ place-model h m (at + 6 + n + records_length gs)
     ∙ ap (λ (k : ℕ). Option.map (λ (x : FullModel). k) (item m h)) e
 
+-- the next model stands at the front of the records that are left; where there are none, the bytes end there
+next-model : (h : Hall) (at n : ℕ) → n ≡ at + records_length (hall_records h) → Option.get_or (place_of 1 0 at (hall_records h)) n ≡ at
+unfolding place_of hall_records records_length
+next-model [] at n e = e ∙ omega arith
+next-model (x ∷ h) at n e = refl
+
 place-geometry : (gs : List FullGeometry) (ms : Hall) (g at : ℕ)
     → place_of 2 g at (geometries_records gs ++ hall_records ms) ≡ Option.map (λ (x : FullGeometry). at + records_length (geometries_records (take g gs))) (item g gs)
 unfolding place_of geometries_records hall_records records_length
@@ -113,52 +119,96 @@ pub record ModelHere (s : List ℕ) (h : Hall) (m at : ℕ) : Type 0 where
   pub behind : Stand s (at + (12 + 2 * length it.mapping)) (geometries_records it.geometries ++ hall_records others)
 
 module _ (s : List ℕ) (h : Hall) (same : hall_records h ≡ records s) (m : ℕ) where
-  sought-model : sought s 0 1 m ≡ get_or (Option.map (λ (x : FullModel). 0 + records_length (hall_records (take m h))) (item m h)) (length s)
+  pub sought-model : sought s 0 1 m ≡ Option.get_or (Option.map (λ (x : FullModel). 0 + records_length (hall_records (take m h))) (item m h)) (length s)
   unfolding sought
-  sought-model = ap (λ (rs : List Record). get_or (place_of 1 m 0 rs) (length s)) (sym same) ∙ ap (λ (o : Option ℕ). get_or o (length s)) (place-model h m 0)
+  sought-model = ap (λ (rs : List Record). Option.get_or (place_of 1 m 0 rs) (length s)) (sym same) ∙ ap (λ (o : Option ℕ). Option.get_or o (length s)) (place-model h m 0)
 
-  -- where it is sought
-  sought-there : {at : ℕ} (x : FullModel) (xs : Hall) → drop m h ≡ x ∷ xs → at ≡ sought s 0 1 m → ModelHere s h m at
+  -- behind the bytes of the models before it
+  there : {at : ℕ} (x : FullModel) (xs : Hall) → drop m h ≡ x ∷ xs → at ≡ length (hall_bytes (take m h)) → ModelHere s h m at
   unfolding hall_records
-  sought-there {at} x xs e f =
+  there {at} x xs e f =
       let body : List ℕ = model_body (listed_model x) in
-      let place : at ≡ 0 + records_length (hall_records (take m h)) = f ∙ sought-model ∙ rw e in
+      let place : at ≡ 0 + records_length (hall_records (take m h)) = omega (arith, f, hall-length (take m h)) in
       let parts : hall_records h ≡ hall_records (take m h) ++ hall_records (x ∷ xs) = ap hall_records (sym (take-append-drop m h)) ∙ hall-append (take m h) (drop m h) ∙ rw e in
       let all : Stand s 0 (hall_records (take m h) ++ hall_records (x ∷ xs)) = record { low = omega arith; are = sym same ∙ parts } in
       let here : Stand s at (hall_records (x ∷ xs)) = rw place (Stand-behind s 0 (hall_records (take m h)) (hall_records (x ∷ xs)) all) in
       let front = Stand-front s at (of_kind 1 body) (geometries_records x.geometries ++ hall_records xs) here in
       let l : length body ≡ 6 + 2 * length x.mapping = model_body-length x in
       let n : at + (12 + 2 * length x.mapping) ≡ at + 6 + length body = omega (arith, l) in
-      let begins : at ≡ length (hall_bytes (take m h)) = omega (arith, place, hall-length (take m h)) in
-      record { it = x; others = xs; is = e; place = begins; length-is = front.length-is ∙ l; behind = rw n front.behind }
+      record { it = x; others = xs; is = e; place = f; length-is = front.length-is ∙ l; behind = rw n front.behind }
 
-  -- it begins where the models before it end
-  model-ends : length (hall_bytes h) ≡ length s → sought s 0 1 m ≡ length (hall_bytes (take m h))
-  model-ends long = sought-model ∙ by (drop m h) refl
+  pub model-stands : {at : ℕ} (x : FullModel) → item m h ≡ some x → at ≡ length (hall_bytes (take m h)) → ModelHere s h m at
+  model-stands {at} x i f = by (drop m h) refl
     where
-      by : (l : Hall) → drop m h ≡ l → get_or (Option.map (λ (x : FullModel). 0 + records_length (hall_records (take m h))) (item m h)) (length s) ≡ length (hall_bytes (take m h))
-      by [] q = let all : take m h ≡ h = sym (append-nil (take m h)) ∙ ap (λ (l : Hall). take m h ++ l) (sym q) ∙ take-append-drop m h in rw (q, all) (sym long)
-      by (x ∷ xs) q = rw q (omega (arith, hall-length (take m h)))
+      by : (l : Hall) → drop m h ≡ l → ModelHere s h m at
+      by [] q = let clash : none ≡ some x = rw q at i in let z : ◌≡◌ {A = ℕ} 0 1 = cc in absurd (omega arith)
+      by (y ∷ ys) q = there y ys q f
 
-  -- where a pass has met it last
-  ModelHere_lem : {p : Mark} → Marked s p → p.models ≡ m + 1 → m < length h → ModelHere s h m p.model
-  ModelHere_lem {p} w counted inside = by (drop m h) refl
+  -- where it is sought
+  pub sought-there : {at : ℕ} (x : FullModel) (xs : Hall) → drop m h ≡ x ∷ xs → at ≡ sought s 0 1 m → ModelHere s h m at
+  sought-there {at} x xs e f =
+      let place : at ≡ 0 + records_length (hall_records (take m h)) = f ∙ sought-model ∙ rw e in
+      there x xs e (omega (arith, place, hall-length (take m h)))
+
+  pub no-model : {at : ℕ} → at ≡ sought s 0 1 m → at ≡ length s → item m h ≡ none
+  no-model {at} e z = by (drop m h) refl
     where
-      sought-here : p.model ≡ sought s 0 1 m
-      sought-here = let e : p.models - 1 ≡ m = omega arith in w.model_is (omega arith) ∙ ap (λ (n : ℕ). sought s 0 1 n) e
+      by : (l : Hall) → drop m h ≡ l → item m h ≡ none
+      by [] q = rw q
+      by (x ∷ xs) q = let w = sought-there x xs q e in absurd (omega (arith, z, w.behind.low))
 
-      by : (l : Hall) → drop m h ≡ l → ModelHere s h m p.model
-      by [] q = absurd (omega (arith, ap length q, length-drop m h))
-      by (x ∷ xs) q = sought-there x xs q sought-here
+  pub ModelHere_lem : {at : ℕ} → at ≡ sought s 0 1 m → (at ≡ length s → ⊥) → ModelHere s h m at
+  ModelHere_lem {at} e z = by (drop m h) refl
+    where
+      by : (l : Hall) → drop m h ≡ l → ModelHere s h m at
+      by [] q = absurd (z (e ∙ sought-model ∙ rw q))
+      by (x ∷ xs) q = sought-there x xs q e
 
--- ---- behind its record
+-- ---- where it ends
 
 module _ {s : List ℕ} {h : Hall} {m at : ℕ} (w : ModelHere s h m at) where
   abbrev pub start : ℕ
   start = at + (12 + 2 * length w.it.mapping)
 
-  behind-model : at + 6 + field 4 s at ≡ start
-  behind-model = omega (arith, w.length-is)
+  -- the record behind the model's
+  pub behind-model : {n : ℕ} → n ≡ field 4 s at → at + 6 + n ≡ start
+  behind-model {n} e = omega (arith, w.length-is)
+
+  abbrev end : ℕ
+  end = start + records_length (geometries_records w.it.geometries)
+
+  -- with other models behind it
+  joined_length : (l : Hall) → length (hall_bytes (take m h ++ (w.it ∷ l))) ≡ end + records_length (hall_records l)
+  unfolding hall_records records_length
+  joined_length l =
+      let before : Hall = take m h in
+      let gs : List Record = geometries_records w.it.geometries in
+      let all : records_length (hall_records (before ++ (w.it ∷ l))) ≡ records_length (hall_records before) + records_length (hall_records (w.it ∷ l)) =
+      ap records_length (hall-append before (w.it ∷ l)) ∙ records_length-append (hall_records before) (hall_records (w.it ∷ l)) in
+      omega (arith, all, records_length-append gs (hall_records l), hall-length (before ++ (w.it ∷ l)), hall-length before, w.place, model_body-length w.it)
+
+  -- the models up to it
+  up_to : take (m + 1) h ≡ take m h ++ (w.it ∷ [])
+  up_to =
+      let inside : m < length h = omega (arith, ap length w.is, length-drop m h) in
+      let parts = drop-cons h m w.it inside in
+      let it-is : get_or h m w.it ≡ w.it = cc in
+      rw (add-one m, take-suc h m w.it inside, it-is)
+
+  end_is : length (hall_bytes (take (m + 1) h)) ≡ end
+  unfolding hall_records records_length
+  end_is = rw up_to (omega (arith, joined_length []))
+
+  -- all
+  all-length : length (hall_bytes h) ≡ end + records_length (hall_records w.others)
+  all-length = ap (λ (l : Hall). length (hall_bytes l)) (sym (take-append-drop m h) ∙ rw w.is) ∙ joined_length w.others
+
+  -- so the end that is sought is that of its bytes
+  pub model-ends : length (hall_bytes h) ≡ length s → model_end s at ≡ length (hall_bytes (take (m + 1) h))
+  unfolding model_end sought
+  model-ends long =
+      let gs : List FullGeometry = w.it.geometries in
+      rw (behind-model refl, w.behind.are, past-geometries gs (hall_records w.others) 0 start) (next-model w.others end (length s) (sym long ∙ all-length) ∙ sym end_is)
 
 -- ---- a geometry of it that is found, or none
 
@@ -171,9 +221,9 @@ pub record GeometryHere (s : List ℕ) (start : ℕ) (gs : List FullGeometry) (g
   pub low : at + 55 + length it.vertices.content ≤ length s
 
 module _ (s : List ℕ) (start : ℕ) (gs : List FullGeometry) (ms : Hall) (w : Stand s start (geometries_records gs ++ hall_records ms)) (g : ℕ) where
-  sought-geometry : sought s start 2 g ≡ get_or (Option.map (λ (x : FullGeometry). start + records_length (geometries_records (take g gs))) (item g gs)) (length s)
+  sought-geometry : sought s start 2 g ≡ Option.get_or (Option.map (λ (x : FullGeometry). start + records_length (geometries_records (take g gs))) (item g gs)) (length s)
   unfolding sought
-  sought-geometry = ap (λ (rs : List Record). get_or (place_of 2 g start rs) (length s)) w.are ∙ ap (λ (o : Option ℕ). get_or o (length s)) (place-geometry gs ms g start)
+  sought-geometry = ap (λ (rs : List Record). Option.get_or (place_of 2 g start rs) (length s)) w.are ∙ ap (λ (o : Option ℕ). Option.get_or o (length s)) (place-geometry gs ms g start)
 
   stands : {at : ℕ} (x : FullGeometry) (xs : List FullGeometry) → drop g gs ≡ x ∷ xs → at ≡ sought s start 2 g → GeometryHere s start gs g at
   unfolding geometries_records
@@ -217,48 +267,28 @@ module _ (s : List ℕ) (start : ℕ) (gs : List FullGeometry) (ms : Hall) (w : 
       by [] q = absurd (z (e ∙ sought-geometry ∙ rw q))
       by (x ∷ xs) q = stands x xs q e
 
--- ---- the answers, where a pass came nearest
+-- ---- the answers
 
-module _ (s : List ℕ) (h : Hall) (same : hall_records h ≡ records s) {m g : ℕ} {p : Mark} (near : Near s m g (length h) p) where
-  no_such : p.models ≤ m → item m h ≡ none
-  no_such few = let all-before : length h ≤ m = omega (arith, near.models_are) in rw (drop_of_length-le h {i = m} all-before)
-
-  pub model-absent : p.models ≤ m → NoModel ≡ found_model (model_place h m)
+module _ (s : List ℕ) (h : Hall) (same : hall_records h ≡ records s) (m : ℕ) {at : ℕ} (e : at ≡ sought s 0 1 m) where
+  pub model-absent : at ≡ length s → NoModel ≡ found_model (model_place h m)
   unfolding model_place
-  model-absent few = rw (no_such few)
+  model-absent z = rw (no-model s h same m e z)
 
-  pub without-model : p.models ≤ m → NoGeometry ≡ found_geometry (geometry_place h m g)
+  pub model_found_lem : (at ≡ length s → ⊥) → ModelAt at ≡ found_model (model_place h m)
+  unfolding model_place
+  model_found_lem z = let w = ModelHere_lem s h same m e z in rw (w.is, ← w.place)
+
+  pub without-model : (g : ℕ) → at ≡ length s → NoGeometry ≡ found_geometry (geometry_place h m g)
   unfolding geometry_place
-  without-model few = rw (no_such few)
+  without-model g z = rw (no-model s h same m e z)
 
-  pub model-near : m < p.models → ModelHere s h m p.model
-  model-near some-such = ModelHere_lem s h same m near.marked (omega (arith, near.models_are)) (omega (arith, near.models_are))
-
-  -- it ends where a model is sought from there on
-  pub end-near : m < p.models → length (hall_bytes h) ≡ length s → sought s p.at 1 0 ≡ length (hall_bytes (take (m + 1) h))
-  end-near some-such long =
-      let e : p.models + 0 ≡ m + 1 = omega (arith, near.models_are) in
-      sym (near.marked.models-behind 0) ∙ ap (λ (n : ℕ). sought s 0 1 n) e ∙ model-ends s h same (m + 1) long
-
-pub model_found_lem : {s : List ℕ} {h : Hall} {m at : ℕ} → ModelHere s h m at → ModelAt at ≡ found_model (model_place h m)
-unfolding model_place
-model_found_lem w = rw (w.is, ← w.place)
-
--- the last model, of as many as a pass was to go to
-pub last_found : (s : List ℕ) (h : Hall) → hall_records h ≡ records s → {m g count : ℕ} {p : Mark} → Near s m g (length h) p → count ≡ length h → (count ≡ 0 → ⊥) → count ≤ m + 1
-    → found_model (model_place h (count - 1)) ≡ ModelAt p.model
-last_found s h same near counted some-such few =
-    sym (model_found_lem (ModelHere_lem s h same _ near.marked (omega (arith, near.models_are, some-such)) (omega (arith, some-such))))
-
-module _ {s : List ℕ} {h : Hall} {m g : ℕ} {p : Mark} (near : Near s m g (length h) p) (some-such : m < p.models) (w : ModelHere s h m p.model) where
+module _ {s : List ℕ} {h : Hall} {m at : ℕ} (w : ModelHere s h m at) (g : ℕ) where
   abbrev pub GeometryOf : ℕ → Type 0
   GeometryOf place = GeometryHere s (start w) w.it.geometries g place
 
-  module _ {skip place : ℕ} (e : skip ≡ g - p.own) (f : place ≡ sought s p.at 2 skip) where
+  module _ {n place : ℕ} (e : n ≡ field 4 s at) (f : place ≡ sought s (at + 6 + n) 2 g) where
     from_start : place ≡ sought s (start w) 2 g
-    from_start =
-        let all : p.own + skip ≡ g = omega (arith, near.own-few) in
-        f ∙ sym (near.marked.geometries-behind (omega arith) skip) ∙ rw (all, behind-model w)
+    from_start = f ∙ ap (λ (k : ℕ). sought s k 2 g) (behind-model w e)
 
     pub geometry-absent : place ≡ length s → NoGeometry ≡ found_geometry (geometry_place h m g)
     unfolding geometry_place
@@ -268,7 +298,7 @@ module _ {s : List ℕ} {h : Hall} {m g : ℕ} {p : Mark} (near : Near s m g (le
     geometry-stands z = GeometryHere_lem s (start w) w.it.geometries w.others w.behind g from_start z
 
   pub geometry_found_lem : {place n : ℕ} → GeometryOf place → n ≡ field 4 s (place + 42)
-      → GeometryAt (record { model = p.model; geometry = place; declaration = place + 20; vertices = place + 42; indices = place + 42 + 6 + n }) ≡ found_geometry (geometry_place h m g)
+      → GeometryAt (record { model = at; geometry = place; declaration = place + 20; vertices = place + 42; indices = place + 42 + 6 + n }) ≡ found_geometry (geometry_place h m g)
   unfolding geometry_place
   geometry_found_lem {place} {n} x e =
       let i : place + 42 + 6 + n ≡ place + 55 + length x.it.vertices.content = omega (arith, e, x.length-is) in

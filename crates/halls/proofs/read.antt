@@ -15,5 +15,4 @@ pub mod WritingItems
 pub mod Walks
 pub mod SecondPass
 pub mod WritingModel
-pub mod ReaderParts
 pub mod ListingLaws

@@ -5,7 +5,7 @@ use lib.ListN.{take}
 use Rattle.halls.specs.Checks.{hall_verdict}
 use Rattle.halls.specs.Inner.Seeking.{Nearest}
 use Rattle.halls.specs.declared.check.check.Verdict.TheVariants.{Sound}
-use Rattle.halls.proofs.PlaceLaws.{model-absent, model-near, model_found_lem}
+use Rattle.halls.proofs.NearLaws.{model-absent, model-near, model-is_found}
 use Rattle.halls.proofs.StateLaws.{SoundBytes, SoundBytes_lem}
 use Rattle.halls.proofs.check.FoundLaws.{model_found-sound}
 use Rattle.halls.proofs.edit.StepLaws.{lowest_fails, lowest_sound}
@@ -25,4 +25,4 @@ pub returns : goal.returns
 returns c = let passed : let a = c.args in hall_verdict a.hall.now a.n ≡ Sound = lowest_sound _ _ _ c.survey_first-found.ensures.examined c.if-found-lt-PASSED.false in
     let sound : let a = c.args in SoundBytes a.hall.now a.n = SoundBytes_lem _ _ (λ i. (c.type_inv.hall i).fits) passed in
     let near : let a = c.args in Nearest (take a.n a.hall.now) a.model 0 c.survey_first-found.result.nearest = c.survey_first-found.ensures.nearest passed in
-    model_found_lem (model-near _ _ sound.read.same-records near c.if-found-model.false) ∙ sym (model_found-sound passed sound _)
+    model-is_found (model-near _ _ sound.read.same-records near c.if-found-model.false) ∙ sym (model_found-sound passed sound _)

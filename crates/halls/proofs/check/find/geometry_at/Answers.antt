@@ -3,7 +3,8 @@ use mathlib.Core.Path.{refl}
 use native.Mathlib.Omega.{arith}
 use Rattle.halls.specs.Parsing.{models_in}
 use Rattle.halls.specs.Records.{records}
-use Rattle.halls.proofs.PlaceLaws.{ModelHere, GeometryOf, model-near, without-model, geometry-absent, geometry-stands, geometry_found_lem}
+use Rattle.halls.proofs.PlaceLaws.{ModelHere, GeometryOf, geometry_found_lem}
+use Rattle.halls.proofs.NearLaws.{model-near, without-model, geometry-absent, geometry-stands}
 use Rattle.halls.proofs.check.find.geometry_at.Goals as goal
 
 pub returns-then-nearest-model : goal.returns-then-nearest-model
@@ -15,25 +16,25 @@ returns-then-place-list c = let model : let a = c.args in ModelHere a.list.now (
 
 pub overflow_add-vertices : goal.overflow_add-vertices
 overflow_add-vertices c = let model : let a = c.args in ModelHere a.list.now (models_in (records a.list.now)) a.model a.nearest.model = model-near _ _ c.requires.0 c.requires.1 c.if-nearest-model.false in
-    let geometry : GeometryOf c.requires.1 c.if-nearest-model.false model c.seek-place.result = geometry-stands c.requires.1 c.if-nearest-model.false model refl c.seek-place.ensures c.if-place-list.false in
+    let geometry : GeometryOf model c.args.geometry c.seek-place.result = geometry-stands c.requires.1 c.if-nearest-model.false model refl c.seek-place.ensures c.if-place-list.false in
     omega (arith, geometry.low)
 
 pub overflow_add-indices : goal.overflow_add-indices
 overflow_add-indices c = let model : let a = c.args in ModelHere a.list.now (models_in (records a.list.now)) a.model a.nearest.model = model-near _ _ c.requires.0 c.requires.1 c.if-nearest-model.false in
-    let geometry : GeometryOf c.requires.1 c.if-nearest-model.false model c.seek-place.result = geometry-stands c.requires.1 c.if-nearest-model.false model refl c.seek-place.ensures c.if-place-list.false in
+    let geometry : GeometryOf model c.args.geometry c.seek-place.result = geometry-stands c.requires.1 c.if-nearest-model.false model refl c.seek-place.ensures c.if-place-list.false in
     omega (arith, geometry.low)
 
 pub overflow_add-indices-2 : goal.overflow_add-indices-2
 overflow_add-indices-2 c = let model : let a = c.args in ModelHere a.list.now (models_in (records a.list.now)) a.model a.nearest.model = model-near _ _ c.requires.0 c.requires.1 c.if-nearest-model.false in
-    let geometry : GeometryOf c.requires.1 c.if-nearest-model.false model c.seek-place.result = geometry-stands c.requires.1 c.if-nearest-model.false model refl c.seek-place.ensures c.if-place-list.false in
+    let geometry : GeometryOf model c.args.geometry c.seek-place.result = geometry-stands c.requires.1 c.if-nearest-model.false model refl c.seek-place.ensures c.if-place-list.false in
     let x = geometry in omega (arith, c.u32_le.ensures, x.length-is, x.low)
 
 pub overflow_add-result : goal.overflow_add-result
 overflow_add-result c = let model : let a = c.args in ModelHere a.list.now (models_in (records a.list.now)) a.model a.nearest.model = model-near _ _ c.requires.0 c.requires.1 c.if-nearest-model.false in
-    let geometry : GeometryOf c.requires.1 c.if-nearest-model.false model c.seek-place.result = geometry-stands c.requires.1 c.if-nearest-model.false model refl c.seek-place.ensures c.if-place-list.false in
+    let geometry : GeometryOf model c.args.geometry c.seek-place.result = geometry-stands c.requires.1 c.if-nearest-model.false model refl c.seek-place.ensures c.if-place-list.false in
     omega (arith, geometry.low)
 
 pub returns : goal.returns
 returns c = let model : let a = c.args in ModelHere a.list.now (models_in (records a.list.now)) a.model a.nearest.model = model-near _ _ c.requires.0 c.requires.1 c.if-nearest-model.false in
-    let geometry : GeometryOf c.requires.1 c.if-nearest-model.false model c.seek-place.result = geometry-stands c.requires.1 c.if-nearest-model.false model refl c.seek-place.ensures c.if-place-list.false in
-    geometry_found_lem c.requires.1 c.if-nearest-model.false model geometry c.u32_le.ensures
+    let geometry : GeometryOf model c.args.geometry c.seek-place.result = geometry-stands c.requires.1 c.if-nearest-model.false model refl c.seek-place.ensures c.if-place-list.false in
+    geometry_found_lem model c.args.geometry geometry c.u32_le.ensures

@@ -6,7 +6,7 @@ use Rattle.halls.specs.Calls.{Given}
 use Rattle.halls.specs.Checks.{hall_verdict}
 use Rattle.halls.specs.Inner.Walk.{Counted}
 use Rattle.halls.specs.declared.check.check.Verdict.TheVariants.{Sound}
-use Rattle.halls.proofs.PlaceLaws.{last_found}
+use Rattle.halls.proofs.NearLaws.{last_found}
 use Rattle.halls.proofs.edit.AddedGeometry.{no-model}
 use Rattle.halls.proofs.edit.AddedModel.{added-few}
 use Rattle.halls.proofs.edit.StepLaws.{hall_in, Old, old, lowest_fails, lowest_sound, stays_old, answered}

@@ -5,7 +5,7 @@ use Prim.Native.Nat.{◌+◌, ◌≤◌}
 use native.Mathlib.Omega.{arith}
 use lib.ListN.{length, take, length-take}
 use Rattle.halls.specs.Hall.{hall_bytes}
-use Rattle.halls.proofs.PlaceLaws.{model-absent, model-near, model_found_lem, end-near}
+use Rattle.halls.proofs.NearLaws.{model-absent, model-near, model-is_found, end-near}
 use Rattle.halls.proofs.edit.RemovedLaws.{ModelThere, ModelThere_lem, removed-none, model-spans, removed-one}
 use Rattle.halls.proofs.edit.StepLaws.{hall_in, Old, old}
 use Rattle.halls.proofs.edit.remove.remove_model_in_hall.Goals as goal
@@ -24,7 +24,7 @@ slice_bounds-seek-end-2 c = let sound : Old c.args.hall.now c.args.n = old _ _ (
 
 pub close_gap-requires : goal.close_gap-requires
 close_gap-requires c = let sound : Old c.args.hall.now c.args.n = old _ _ (λ i. search rules) c.requires.0 in
-    let model : let a = c.args in ModelThere (hall_in a.hall.now a.n) a.model a.nearest.model = ModelThere_lem _ _ _ (sym (model_found_lem (model-near _ _ sound.records-are c.requires.1 c.if-nearest-model.false))) in
+    let model : let a = c.args in ModelThere (hall_in a.hall.now a.n) a.model a.nearest.model = ModelThere_lem _ _ _ (sym (model-is_found (model-near _ _ sound.records-are c.requires.1 c.if-nearest-model.false))) in
     let ends : let a = c.args in c.seek-end.result ≡ length (hall_bytes (take (a.model + 1) (hall_in a.hall.now a.n))) = let o = sound in
     c.seek-end.ensures ∙ end-near _ _ o.records-are c.requires.1 c.if-nearest-model.false (simp length-take (omega (arith, o.long, o.within))) in
     let spans : let a = c.args in (a.nearest.model ≤ c.seek-end.result) × (c.seek-end.result ≤ a.n) = model-spans _ _ sound _ _ _ model ends in
@@ -32,7 +32,7 @@ close_gap-requires c = let sound : Old c.args.hall.now c.args.n = old _ _ (λ i.
 
 pub overflow_sub-result : goal.overflow_sub-result
 overflow_sub-result c = let sound : Old c.args.hall.now c.args.n = old _ _ (λ i. search rules) c.requires.0 in
-    let model : let a = c.args in ModelThere (hall_in a.hall.now a.n) a.model a.nearest.model = ModelThere_lem _ _ _ (sym (model_found_lem (model-near _ _ sound.records-are c.requires.1 c.if-nearest-model.false))) in
+    let model : let a = c.args in ModelThere (hall_in a.hall.now a.n) a.model a.nearest.model = ModelThere_lem _ _ _ (sym (model-is_found (model-near _ _ sound.records-are c.requires.1 c.if-nearest-model.false))) in
     let ends : let a = c.args in c.seek-end.result ≡ length (hall_bytes (take (a.model + 1) (hall_in a.hall.now a.n))) = let o = sound in
     c.seek-end.ensures ∙ end-near _ _ o.records-are c.requires.1 c.if-nearest-model.false (simp length-take (omega (arith, o.long, o.within))) in
     let spans : let a = c.args in (a.nearest.model ≤ c.seek-end.result) × (c.seek-end.result ≤ a.n) = model-spans _ _ sound _ _ _ model ends in
@@ -40,7 +40,7 @@ overflow_sub-result c = let sound : Old c.args.hall.now c.args.n = old _ _ (λ i
 
 pub overflow_sub-result-2 : goal.overflow_sub-result-2
 overflow_sub-result-2 c = let sound : Old c.args.hall.now c.args.n = old _ _ (λ i. search rules) c.requires.0 in
-    let model : let a = c.args in ModelThere (hall_in a.hall.now a.n) a.model a.nearest.model = ModelThere_lem _ _ _ (sym (model_found_lem (model-near _ _ sound.records-are c.requires.1 c.if-nearest-model.false))) in
+    let model : let a = c.args in ModelThere (hall_in a.hall.now a.n) a.model a.nearest.model = ModelThere_lem _ _ _ (sym (model-is_found (model-near _ _ sound.records-are c.requires.1 c.if-nearest-model.false))) in
     let ends : let a = c.args in c.seek-end.result ≡ length (hall_bytes (take (a.model + 1) (hall_in a.hall.now a.n))) = let o = sound in
     c.seek-end.ensures ∙ end-near _ _ o.records-are c.requires.1 c.if-nearest-model.false (simp length-take (omega (arith, o.long, o.within))) in
     let spans : let a = c.args in (a.nearest.model ≤ c.seek-end.result) × (c.seek-end.result ≤ a.n) = model-spans _ _ sound _ _ _ model ends in
@@ -48,7 +48,7 @@ overflow_sub-result-2 c = let sound : Old c.args.hall.now c.args.n = old _ _ (λ
 
 pub returns : goal.returns
 returns c = let sound : Old c.args.hall.now c.args.n = old _ _ (λ i. search rules) c.requires.0 in
-    let model : let a = c.args in ModelThere (hall_in a.hall.now a.n) a.model a.nearest.model = ModelThere_lem _ _ _ (sym (model_found_lem (model-near _ _ sound.records-are c.requires.1 c.if-nearest-model.false))) in
+    let model : let a = c.args in ModelThere (hall_in a.hall.now a.n) a.model a.nearest.model = ModelThere_lem _ _ _ (sym (model-is_found (model-near _ _ sound.records-are c.requires.1 c.if-nearest-model.false))) in
     let ends : let a = c.args in c.seek-end.result ≡ length (hall_bytes (take (a.model + 1) (hall_in a.hall.now a.n))) = let o = sound in
     c.seek-end.ensures ∙ end-near _ _ o.records-are c.requires.1 c.if-nearest-model.false (simp length-take (omega (arith, o.long, o.within))) in
     removed-one _ _ sound _ _ _ model ends _ c.close_gap.ensures
