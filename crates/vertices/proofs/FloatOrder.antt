@@ -9,7 +9,17 @@ use lib.Dec.{T, ltb, eqb, ltb→lt, lt→ltb, eqb→eq}
 use lib.Ieee.{Float, nan, inf, fin, up, down, lt, le, is_nan}
 use lib.Ieee.Fits.{down_pos, and_l}
 use borrow.Author.Tests.{ltb-false, ltb-true, le-ltb, lt-ltb}
-use Rattle.vertices.specs.Normalised.{number}
+use Rattle.vertices.specs.Normalised.{number, negative}
+
+-- what is not below 0 is above -1
+pub above_minus_one : (x : Float) → T (not (is_nan x)) → lt x (number 0) ≡ false → T (lt (negative 1) x)
+unfolding lt is_nan
+above_minus_one nan n h = absurd n
+above_minus_one (inf true) n h = absurd (subst T h tt)
+above_minus_one (inf false) n h = tt
+above_minus_one (fin false m e) n h = lt→ltb 0 (1 * 1 * down e + m * up e * 1) (omega (arith, down_pos e))
+above_minus_one (fin true m e) n h =
+    lt→ltb (m * up e * 1) (1 * 1 * down e) (omega (arith, down_pos e, ltb-false 0 (m * up e * 1 + 0 * 1 * down e) h))
 
 -- what is not above c is below any larger d
 pub below_larger : (c d : ℕ) (x : Float) → c < d → T (not (is_nan x)) → lt (number c) x ≡ false → T (lt x (number d))

@@ -37,3 +37,7 @@ pub mod LocatedLaws
 pub mod LaneLoops
 pub mod LaneLaws
 pub mod LaneBlocks
+pub mod RegularLaws
+pub mod SubnormalLaws
+pub mod FloatCut
+pub mod NormalisedSigned
