@@ -1,5 +1,5 @@
 // Halves (IEEE 754's binary16) to floats and back, both as their bits, so that a NaN's bits are kept. Either way is sums and choices,
-// the same for all bits, which the compiler does for several numbers at once.
+// the same for all bits, without a jump between cases.
 ghost use Rattle.std.specs.Prelude.{◌≡◌, cond, ◌%◌, ◌<◌, ltb};
 ghost use Rattle.std.specs.Float.Ieee.{lt};
 ghost use Rattle.vertices.specs.Half.{decoded, encoded, f16_to_f32, f32_to_f16};

@@ -9,22 +9,29 @@ use Rattle.halls.proofs.StateLaws.{SoundBytes, SoundBytes_lem}
 use Rattle.halls.proofs.check.FoundLaws.{geometry_found-sound}
 use Rattle.halls.proofs.edit.StepLaws.{lowest_fails, lowest_sound}
 use Rattle.halls.proofs.check.find.find_geometry.Goals as goal
+use Rattle.halls.proofs.check.find.find_geometry.Goals.{Else-found-lt-PASSED}
+
+passed : (c : Else-found-lt-PASSED) → let a = c.args in hall_verdict a.hall.now a.n ≡ Sound
+passed c = lowest_sound _ _ _ c.survey_first-found.ensures.examined c.if-found-lt-PASSED.false
+
+sound : (c : Else-found-lt-PASSED) → let a = c.args in SoundBytes a.hall.now a.n
+sound c = SoundBytes_lem _ _ (λ i. (c.type_inv.hall i).fits) (passed c)
 
 pub returns-then-found-lt-PASSED : goal.returns-then-found-lt-PASSED
 unfolding geometry_found
 returns-then-found-lt-PASSED c = rw (lowest_fails _ _ _ c.survey_first-found.ensures.examined c.if-found-lt-PASSED.true)
 
 pub slice_bounds-geometry_at-end : goal.slice_bounds-geometry_at-end
-slice_bounds-geometry_at-end c = let passed : let a = c.args in hall_verdict a.hall.now a.n ≡ Sound = lowest_sound _ _ _ c.survey_first-found.ensures.examined c.if-found-lt-PASSED.false in
-    let sound : let a = c.args in SoundBytes a.hall.now a.n = SoundBytes_lem _ _ (λ i. (c.type_inv.hall i).fits) passed in
-    simp length-take (omega (arith, sound.within))
+slice_bounds-geometry_at-end c =
+    let k = (goal.at.slice_bounds-geometry_at-end c).Else-found-lt-PASSED in
+    simp length-take (omega (arith, (sound k).within))
 
 pub geometry_at-requires : goal.geometry_at-requires
-geometry_at-requires c = let passed : let a = c.args in hall_verdict a.hall.now a.n ≡ Sound = lowest_sound _ _ _ c.survey_first-found.ensures.examined c.if-found-lt-PASSED.false in
-    let sound : let a = c.args in SoundBytes a.hall.now a.n = SoundBytes_lem _ _ (λ i. (c.type_inv.hall i).fits) passed in
-    (sound.read.same-records, c.survey_first-found.ensures.nearest passed)
+geometry_at-requires c =
+    let k = (goal.at.geometry_at-requires c).Else-found-lt-PASSED in
+    ((sound k).read.same-records, c.survey_first-found.ensures.nearest (passed k))
 
 pub returns : goal.returns
-returns c = let passed : let a = c.args in hall_verdict a.hall.now a.n ≡ Sound = lowest_sound _ _ _ c.survey_first-found.ensures.examined c.if-found-lt-PASSED.false in
-    let sound : let a = c.args in SoundBytes a.hall.now a.n = SoundBytes_lem _ _ (λ i. (c.type_inv.hall i).fits) passed in
-    c.geometry_at.ensures ∙ sym (geometry_found-sound passed sound _ _)
+returns c =
+    let k = (goal.at.returns c).Else-found-lt-PASSED in
+    c.geometry_at.ensures ∙ sym (geometry_found-sound (passed k) (sound k) _ _)

@@ -10,132 +10,109 @@ use Rattle.halls.specs.Inner.Walk.{limits_lowest}
 use Rattle.halls.proofs.edit.AddedGeometry.{Room, size_room, added-judged, added-long, added-done, parts-small}
 use Rattle.halls.proofs.edit.StepLaws.{Old, old, answered}
 use Rattle.halls.proofs.edit.add_geometry.append_geometry.Goals as goal
+use Rattle.halls.proofs.edit.add_geometry.append_geometry.Goals.{After-u32_le-size, After-lower-lowest}
+
+-- the hall as it was lent, what is given, and that its size has room
+sound : (c : After-u32_le-size) → Old c.args.hall.now c.args.n
+sound c = old _ _ (λ i. search rules) c.requires.0
+
+abbrev given : After-u32_le-size → Given
+given c = let a = c.args in record { shader = a.shader; declaration = a.declaration; stride = a.stride; count = a.count; content = a.content.now; indices = a.indices.now }
+
+room : (c : After-u32_le-size) → Room c.args.hall.now c.args.n (sound c) (given c) c.args.found c.requires.1 c.args.place c.requires.2 c.u32_le-size.result c.u32_le-size.ensures
+room c = size_room _ _ (sound c) (given c) _ c.requires.1 _ c.requires.2 _ c.u32_le-size.ensures
+
+-- the lowest rank that fails, and how few things there are where none does
+lowest : (c : After-lower-lowest) → let a = c.args in
+    c.lower-lowest.result ≡ min c.given_lowest.result (limits_lowest a.found.models (a.found.geometries + 1) (a.found.units + c.added_units-added.result))
+lowest c = c.lower-lowest.ensures ∙ ap (min c.given_lowest.result) c.limits_lowest-limits.ensures
+
+small : (c : After-lower-lowest) → passed ≤ c.lower-lowest.result → let a = c.args in
+    (a.count ≤ 65535) × (length a.content.now ≤ 67108864) × (length a.indices.now ≤ 33554432) × (a.n ≤ length a.hall.now)
+small c =
+    let sound : Old c.args.hall.now c.args.n = old _ _ (λ i. search rules) c.requires.0 in
+    let given : Given = let a = c.args in record { shader = a.shader; declaration = a.declaration; stride = a.stride; count = a.count; content = a.content.now; indices = a.indices.now } in
+    λ h. let p = parts-small _ _ sound given _ c.requires.1 _ c.requires.2 _ c.u32_le-size.ensures _ _ _ c.given_lowest.ensures c.added_units-added.ensures (lowest c) h in
+    (p.0, p.1, p.2, sound.within)
 
 pub overflow_sub-size : goal.overflow_sub-size
-overflow_sub-size c = let sound : Old c.args.hall.now c.args.n = old _ _ (λ i. search rules) c.requires.0 in
-    let given : Given = let a = c.args in record { shader = a.shader; declaration = a.declaration; stride = a.stride; count = a.count; content = a.content.now; indices = a.indices.now } in
-    let room : Room c.args.hall.now c.args.n sound given c.args.found c.requires.1 c.args.place c.requires.2 c.u32_le-size.result c.u32_le-size.ensures = size_room _ _ sound given _ c.requires.1 _ c.requires.2 _ c.u32_le-size.ensures in
-    omega (arith, room.some_size)
+overflow_sub-size c =
+    let sized = (goal.at.overflow_sub-size c).After-u32_le-size in
+    omega (arith, (room sized).some_size)
 
 pub overflow_add-found : goal.overflow_add-found
-overflow_add-found c = let sound : Old c.args.hall.now c.args.n = old _ _ (λ i. search rules) c.requires.0 in
-    let given : Given = let a = c.args in record { shader = a.shader; declaration = a.declaration; stride = a.stride; count = a.count; content = a.content.now; indices = a.indices.now } in
-    let room : Room c.args.hall.now c.args.n sound given c.args.found c.requires.1 c.args.place c.requires.2 c.u32_le-size.result c.u32_le-size.ensures = size_room _ _ sound given _ c.requires.1 _ c.requires.2 _ c.u32_le-size.ensures in
-    omega (arith, room.few-geometries)
+overflow_add-found c =
+    let sized = (goal.at.overflow_add-found c).After-u32_le-size in
+    omega (arith, (room sized).few-geometries)
 
 pub overflow_add-found-2 : goal.overflow_add-found-2
-overflow_add-found-2 c = let sound : Old c.args.hall.now c.args.n = old _ _ (λ i. search rules) c.requires.0 in
-    let given : Given = let a = c.args in record { shader = a.shader; declaration = a.declaration; stride = a.stride; count = a.count; content = a.content.now; indices = a.indices.now } in
-    let room : Room c.args.hall.now c.args.n sound given c.args.found c.requires.1 c.args.place c.requires.2 c.u32_le-size.result c.u32_le-size.ensures = size_room _ _ sound given _ c.requires.1 _ c.requires.2 _ c.u32_le-size.ensures in
-    omega (arith, room.few-units, c.added_units-added.ensures)
+overflow_add-found-2 c =
+    let sized = (goal.at.overflow_add-found-2 c).After-u32_le-size in
+    omega (arith, (room sized).few-units, c.added_units-added.ensures)
 
 pub returns-then-lowest-lt-PASSED : goal.returns-then-lowest-lt-PASSED
-returns-then-lowest-lt-PASSED c = let sound : Old c.args.hall.now c.args.n = old _ _ (λ i. search rules) c.requires.0 in
-    let given : Given = let a = c.args in record { shader = a.shader; declaration = a.declaration; stride = a.stride; count = a.count; content = a.content.now; indices = a.indices.now } in
-    let lowest : let a = c.args in
-    c.lower-lowest.result ≡ min c.given_lowest.result (limits_lowest a.found.models (a.found.geometries + 1) (a.found.units + c.added_units-added.result)) = c.lower-lowest.ensures ∙ ap (min c.given_lowest.result) c.limits_lowest-limits.ensures in
-    answered c.refused_by.ensures (added-judged _ _ sound given _ c.requires.1 _ c.requires.2 _ c.u32_le-size.ensures _ _ _ c.given_lowest.ensures c.added_units-added.ensures lowest c.if-lowest-lt-PASSED.true)
+returns-then-lowest-lt-PASSED c =
+    let sized = (goal.at.returns-then-lowest-lt-PASSED c).After-u32_le-size in
+    let judged = (goal.at.returns-then-lowest-lt-PASSED c).After-lower-lowest in
+    answered c.refused_by.ensures (added-judged _ _ (sound sized) (given sized) _ c.requires.1 _ c.requires.2 _ c.u32_le-size.ensures _ _ _ c.given_lowest.ensures c.added_units-added.ensures (lowest judged) c.if-lowest-lt-PASSED.true)
 
 pub overflow_add-needed : goal.overflow_add-needed
-overflow_add-needed c = let sound : Old c.args.hall.now c.args.n = old _ _ (λ i. search rules) c.requires.0 in
-    let given : Given = let a = c.args in record { shader = a.shader; declaration = a.declaration; stride = a.stride; count = a.count; content = a.content.now; indices = a.indices.now } in
-    let lowest : let a = c.args in
-    c.lower-lowest.result ≡ min c.given_lowest.result (limits_lowest a.found.models (a.found.geometries + 1) (a.found.units + c.added_units-added.result)) = c.lower-lowest.ensures ∙ ap (min c.given_lowest.result) c.limits_lowest-limits.ensures in
-    let small : passed ≤ c.lower-lowest.result → let a = c.args in
-    (a.count ≤ 65535) × (length a.content.now ≤ 67108864) × (length a.indices.now ≤ 33554432) × (a.n ≤ length a.hall.now) = λ h. let p = parts-small _ _ sound given _ c.requires.1 _ c.requires.2 _ c.u32_le-size.ensures _ _ _ c.given_lowest.ensures c.added_units-added.ensures lowest h in
-    (p.0, p.1, p.2, sound.within) in
-    omega (arith, small c.if-lowest-lt-PASSED.false)
+overflow_add-needed c =
+    let judged = (goal.at.overflow_add-needed c).After-lower-lowest in
+    omega (arith, small judged c.if-lowest-lt-PASSED.false)
 
 pub overflow_add-needed-2 : goal.overflow_add-needed-2
-overflow_add-needed-2 c = let sound : Old c.args.hall.now c.args.n = old _ _ (λ i. search rules) c.requires.0 in
-    let given : Given = let a = c.args in record { shader = a.shader; declaration = a.declaration; stride = a.stride; count = a.count; content = a.content.now; indices = a.indices.now } in
-    let lowest : let a = c.args in
-    c.lower-lowest.result ≡ min c.given_lowest.result (limits_lowest a.found.models (a.found.geometries + 1) (a.found.units + c.added_units-added.result)) = c.lower-lowest.ensures ∙ ap (min c.given_lowest.result) c.limits_lowest-limits.ensures in
-    let small : passed ≤ c.lower-lowest.result → let a = c.args in
-    (a.count ≤ 65535) × (length a.content.now ≤ 67108864) × (length a.indices.now ≤ 33554432) × (a.n ≤ length a.hall.now) = λ h. let p = parts-small _ _ sound given _ c.requires.1 _ c.requires.2 _ c.u32_le-size.ensures _ _ _ c.given_lowest.ensures c.added_units-added.ensures lowest h in
-    (p.0, p.1, p.2, sound.within) in
-    omega (arith, small c.if-lowest-lt-PASSED.false)
+overflow_add-needed-2 c =
+    let judged = (goal.at.overflow_add-needed-2 c).After-lower-lowest in
+    omega (arith, small judged c.if-lowest-lt-PASSED.false)
 
 pub overflow_mul-needed : goal.overflow_mul-needed
-overflow_mul-needed c = let sound : Old c.args.hall.now c.args.n = old _ _ (λ i. search rules) c.requires.0 in
-    let given : Given = let a = c.args in record { shader = a.shader; declaration = a.declaration; stride = a.stride; count = a.count; content = a.content.now; indices = a.indices.now } in
-    let lowest : let a = c.args in
-    c.lower-lowest.result ≡ min c.given_lowest.result (limits_lowest a.found.models (a.found.geometries + 1) (a.found.units + c.added_units-added.result)) = c.lower-lowest.ensures ∙ ap (min c.given_lowest.result) c.limits_lowest-limits.ensures in
-    let small : passed ≤ c.lower-lowest.result → let a = c.args in
-    (a.count ≤ 65535) × (length a.content.now ≤ 67108864) × (length a.indices.now ≤ 33554432) × (a.n ≤ length a.hall.now) = λ h. let p = parts-small _ _ sound given _ c.requires.1 _ c.requires.2 _ c.u32_le-size.ensures _ _ _ c.given_lowest.ensures c.added_units-added.ensures lowest h in
-    (p.0, p.1, p.2, sound.within) in
-    omega (arith, small c.if-lowest-lt-PASSED.false)
+overflow_mul-needed c =
+    let judged = (goal.at.overflow_mul-needed c).After-lower-lowest in
+    omega (arith, small judged c.if-lowest-lt-PASSED.false)
 
 pub overflow_add-needed-3 : goal.overflow_add-needed-3
-overflow_add-needed-3 c = let sound : Old c.args.hall.now c.args.n = old _ _ (λ i. search rules) c.requires.0 in
-    let given : Given = let a = c.args in record { shader = a.shader; declaration = a.declaration; stride = a.stride; count = a.count; content = a.content.now; indices = a.indices.now } in
-    let lowest : let a = c.args in
-    c.lower-lowest.result ≡ min c.given_lowest.result (limits_lowest a.found.models (a.found.geometries + 1) (a.found.units + c.added_units-added.result)) = c.lower-lowest.ensures ∙ ap (min c.given_lowest.result) c.limits_lowest-limits.ensures in
-    let small : passed ≤ c.lower-lowest.result → let a = c.args in
-    (a.count ≤ 65535) × (length a.content.now ≤ 67108864) × (length a.indices.now ≤ 33554432) × (a.n ≤ length a.hall.now) = λ h. let p = parts-small _ _ sound given _ c.requires.1 _ c.requires.2 _ c.u32_le-size.ensures _ _ _ c.given_lowest.ensures c.added_units-added.ensures lowest h in
-    (p.0, p.1, p.2, sound.within) in
-    omega (arith, small c.if-lowest-lt-PASSED.false)
+overflow_add-needed-3 c =
+    let judged = (goal.at.overflow_add-needed-3 c).After-lower-lowest in
+    omega (arith, small judged c.if-lowest-lt-PASSED.false)
 
 pub returns-then-hall-needed : goal.returns-then-hall-needed
-returns-then-hall-needed c = let sound : Old c.args.hall.now c.args.n = old _ _ (λ i. search rules) c.requires.0 in
-    let given : Given = let a = c.args in record { shader = a.shader; declaration = a.declaration; stride = a.stride; count = a.count; content = a.content.now; indices = a.indices.now } in
-    let lowest : let a = c.args in
-    c.lower-lowest.result ≡ min c.given_lowest.result (limits_lowest a.found.models (a.found.geometries + 1) (a.found.units + c.added_units-added.result)) = c.lower-lowest.ensures ∙ ap (min c.given_lowest.result) c.limits_lowest-limits.ensures in
-    answered c.refused.ensures (added-long _ _ sound given _ c.requires.1 _ c.requires.2 _ c.u32_le-size.ensures _ _ _ c.given_lowest.ensures c.added_units-added.ensures lowest c.if-lowest-lt-PASSED.false c.if-hall-needed.true)
+returns-then-hall-needed c =
+    let sized = (goal.at.returns-then-hall-needed c).After-u32_le-size in
+    let judged = (goal.at.returns-then-hall-needed c).After-lower-lowest in
+    answered c.refused.ensures (added-long _ _ (sound sized) (given sized) _ c.requires.1 _ c.requires.2 _ c.u32_le-size.ensures _ _ _ c.given_lowest.ensures c.added_units-added.ensures (lowest judged) c.if-lowest-lt-PASSED.false c.if-hall-needed.true)
 
 pub overflow_add-place : goal.overflow_add-place
-overflow_add-place c = let sound : Old c.args.hall.now c.args.n = old _ _ (λ i. search rules) c.requires.0 in
-    let given : Given = let a = c.args in record { shader = a.shader; declaration = a.declaration; stride = a.stride; count = a.count; content = a.content.now; indices = a.indices.now } in
-    let room : Room c.args.hall.now c.args.n sound given c.args.found c.requires.1 c.args.place c.requires.2 c.u32_le-size.result c.u32_le-size.ensures = size_room _ _ sound given _ c.requires.1 _ c.requires.2 _ c.u32_le-size.ensures in
-    let lowest : let a = c.args in
-    c.lower-lowest.result ≡ min c.given_lowest.result (limits_lowest a.found.models (a.found.geometries + 1) (a.found.units + c.added_units-added.result)) = c.lower-lowest.ensures ∙ ap (min c.given_lowest.result) c.limits_lowest-limits.ensures in
-    let small : passed ≤ c.lower-lowest.result → let a = c.args in
-    (a.count ≤ 65535) × (length a.content.now ≤ 67108864) × (length a.indices.now ≤ 33554432) × (a.n ≤ length a.hall.now) = λ h. let p = parts-small _ _ sound given _ c.requires.1 _ c.requires.2 _ c.u32_le-size.ensures _ _ _ c.given_lowest.ensures c.added_units-added.ensures lowest h in
-    (p.0, p.1, p.2, sound.within) in
-    omega (arith, room.entry-low, small c.if-lowest-lt-PASSED.false)
+overflow_add-place c =
+    let sized = (goal.at.overflow_add-place c).After-u32_le-size in
+    let judged = (goal.at.overflow_add-place c).After-lower-lowest in
+    omega (arith, (room sized).entry-low, small judged c.if-lowest-lt-PASSED.false)
 
 pub overflow_add-place-2 : goal.overflow_add-place-2
-overflow_add-place-2 c = let sound : Old c.args.hall.now c.args.n = old _ _ (λ i. search rules) c.requires.0 in
-    let given : Given = let a = c.args in record { shader = a.shader; declaration = a.declaration; stride = a.stride; count = a.count; content = a.content.now; indices = a.indices.now } in
-    let room : Room c.args.hall.now c.args.n sound given c.args.found c.requires.1 c.args.place c.requires.2 c.u32_le-size.result c.u32_le-size.ensures = size_room _ _ sound given _ c.requires.1 _ c.requires.2 _ c.u32_le-size.ensures in
-    let lowest : let a = c.args in
-    c.lower-lowest.result ≡ min c.given_lowest.result (limits_lowest a.found.models (a.found.geometries + 1) (a.found.units + c.added_units-added.result)) = c.lower-lowest.ensures ∙ ap (min c.given_lowest.result) c.limits_lowest-limits.ensures in
-    let small : passed ≤ c.lower-lowest.result → let a = c.args in
-    (a.count ≤ 65535) × (length a.content.now ≤ 67108864) × (length a.indices.now ≤ 33554432) × (a.n ≤ length a.hall.now) = λ h. let p = parts-small _ _ sound given _ c.requires.1 _ c.requires.2 _ c.u32_le-size.ensures _ _ _ c.given_lowest.ensures c.added_units-added.ensures lowest h in
-    (p.0, p.1, p.2, sound.within) in
-    omega (arith, room.entry-low, small c.if-lowest-lt-PASSED.false)
+overflow_add-place-2 c =
+    let sized = (goal.at.overflow_add-place-2 c).After-u32_le-size in
+    let judged = (goal.at.overflow_add-place-2 c).After-lower-lowest in
+    omega (arith, (room sized).entry-low, small judged c.if-lowest-lt-PASSED.false)
 
 pub insert_entry-requires : goal.insert_entry-requires
-insert_entry-requires c = let sound : Old c.args.hall.now c.args.n = old _ _ (λ i. search rules) c.requires.0 in
-    let given : Given = let a = c.args in record { shader = a.shader; declaration = a.declaration; stride = a.stride; count = a.count; content = a.content.now; indices = a.indices.now } in
-    let room : Room c.args.hall.now c.args.n sound given c.args.found c.requires.1 c.args.place c.requires.2 c.u32_le-size.result c.u32_le-size.ensures = size_room _ _ sound given _ c.requires.1 _ c.requires.2 _ c.u32_le-size.ensures in
-    let lowest : let a = c.args in
-    c.lower-lowest.result ≡ min c.given_lowest.result (limits_lowest a.found.models (a.found.geometries + 1) (a.found.units + c.added_units-added.result)) = c.lower-lowest.ensures ∙ ap (min c.given_lowest.result) c.limits_lowest-limits.ensures in
-    let small : passed ≤ c.lower-lowest.result → let a = c.args in
-    (a.count ≤ 65535) × (length a.content.now ≤ 67108864) × (length a.indices.now ≤ 33554432) × (a.n ≤ length a.hall.now) = λ h. let p = parts-small _ _ sound given _ c.requires.1 _ c.requires.2 _ c.u32_le-size.ensures _ _ _ c.given_lowest.ensures c.added_units-added.ensures lowest h in
-    (p.0, p.1, p.2, sound.within) in
-    omega (arith, room.entry-low, small c.if-lowest-lt-PASSED.false, c.if-hall-needed.false)
+insert_entry-requires c =
+    let sized = (goal.at.insert_entry-requires c).After-u32_le-size in
+    let judged = (goal.at.insert_entry-requires c).After-lower-lowest in
+    omega (arith, (room sized).entry-low, small judged c.if-lowest-lt-PASSED.false, c.if-hall-needed.false)
 
 pub overflow_add-size : goal.overflow_add-size
-overflow_add-size c = let sound : Old c.args.hall.now c.args.n = old _ _ (λ i. search rules) c.requires.0 in
-    let given : Given = let a = c.args in record { shader = a.shader; declaration = a.declaration; stride = a.stride; count = a.count; content = a.content.now; indices = a.indices.now } in
-    let room : Room c.args.hall.now c.args.n sound given c.args.found c.requires.1 c.args.place c.requires.2 c.u32_le-size.result c.u32_le-size.ensures = size_room _ _ sound given _ c.requires.1 _ c.requires.2 _ c.u32_le-size.ensures in
-    omega (arith, room.few_entries)
+overflow_add-size c =
+    let sized = (goal.at.overflow_add-size c).After-u32_le-size in
+    omega (arith, (room sized).few_entries)
 
 pub put_given-requires : goal.put_given-requires
-put_given-requires c = let sound : Old c.args.hall.now c.args.n = old _ _ (λ i. search rules) c.requires.0 in
-    let given : Given = let a = c.args in record { shader = a.shader; declaration = a.declaration; stride = a.stride; count = a.count; content = a.content.now; indices = a.indices.now } in
-    let lowest : let a = c.args in
-    c.lower-lowest.result ≡ min c.given_lowest.result (limits_lowest a.found.models (a.found.geometries + 1) (a.found.units + c.added_units-added.result)) = c.lower-lowest.ensures ∙ ap (min c.given_lowest.result) c.limits_lowest-limits.ensures in
-    let small : passed ≤ c.lower-lowest.result → let a = c.args in
-    (a.count ≤ 65535) × (length a.content.now ≤ 67108864) × (length a.indices.now ≤ 33554432) × (a.n ≤ length a.hall.now) = λ h. let p = parts-small _ _ sound given _ c.requires.1 _ c.requires.2 _ c.u32_le-size.ensures _ _ _ c.given_lowest.ensures c.added_units-added.ensures lowest h in
-    (p.0, p.1, p.2, sound.within) in
-    omega (arith, small c.if-lowest-lt-PASSED.false, c.if-hall-needed.false)
+put_given-requires c =
+    let judged = (goal.at.put_given-requires c).After-lower-lowest in
+    omega (arith, small judged c.if-lowest-lt-PASSED.false, c.if-hall-needed.false)
 
 pub returns : goal.returns
-returns c = let sound : Old c.args.hall.now c.args.n = old _ _ (λ i. search rules) c.requires.0 in
-    let given : Given = let a = c.args in record { shader = a.shader; declaration = a.declaration; stride = a.stride; count = a.count; content = a.content.now; indices = a.indices.now } in
-    let lowest : let a = c.args in
-    c.lower-lowest.result ≡ min c.given_lowest.result (limits_lowest a.found.models (a.found.geometries + 1) (a.found.units + c.added_units-added.result)) = c.lower-lowest.ensures ∙ ap (min c.given_lowest.result) c.limits_lowest-limits.ensures in
-    added-done _ _ sound given _ c.requires.1 _ c.requires.2 _ c.u32_le-size.ensures _ _ _ c.given_lowest.ensures c.added_units-added.ensures lowest c.if-lowest-lt-PASSED.false
+returns c =
+    let sized = (goal.at.returns c).After-u32_le-size in
+    let judged = (goal.at.returns c).After-lower-lowest in
+    added-done _ _ (sound sized) (given sized) _ c.requires.1 _ c.requires.2 _ c.u32_le-size.ensures _ _ _ c.given_lowest.ensures c.added_units-added.ensures (lowest judged) c.if-lowest-lt-PASSED.false
     c.if-hall-needed.false c.insert_entry.ensures c.put_u32_le.ensures c.put_given.ensures

@@ -6,18 +6,25 @@ use lib.ListN.{length-take}
 use Rattle.halls.proofs.edit.RemovedGeometry.{place_found, geometry-lacks}
 use Rattle.halls.proofs.edit.StepLaws.{Old, old}
 use Rattle.halls.proofs.edit.remove.remove_geometry_in_hall.Goals as goal
+use Rattle.halls.proofs.edit.remove.remove_geometry_in_hall.Goals.{After-slice_known-1}
+
+sound : (c : After-slice_known-1) → Old c.args.hall.now c.args.n
+sound c = old _ _ (λ i. search rules) c.requires.0
 
 pub slice_bounds-geometry_at-end : goal.slice_bounds-geometry_at-end
-slice_bounds-geometry_at-end c = let sound : Old c.args.hall.now c.args.n = old _ _ (λ i. search rules) c.requires.0 in
-    sound.within
+slice_bounds-geometry_at-end c =
+    let k = (goal.at.slice_bounds-geometry_at-end c).After-slice_known-1 in
+    (sound k).within
 
 pub slice_bounds-geometry_at-end-2 : goal.slice_bounds-geometry_at-end-2
-slice_bounds-geometry_at-end-2 c = let sound : Old c.args.hall.now c.args.n = old _ _ (λ i. search rules) c.requires.0 in
-    simp length-take (omega (arith, sound.within))
+slice_bounds-geometry_at-end-2 c =
+    let k = (goal.at.slice_bounds-geometry_at-end-2 c).After-slice_known-1 in
+    simp length-take (omega (arith, (sound k).within))
 
 pub geometry_at-requires : goal.geometry_at-requires
-geometry_at-requires c = let sound : Old c.args.hall.now c.args.n = old _ _ (λ i. search rules) c.requires.0 in
-    (sound.records-are, c.requires.1)
+geometry_at-requires c =
+    let k = (goal.at.geometry_at-requires c).After-slice_known-1 in
+    ((sound k).records-are, c.requires.1)
 
 pub cut_geometry-requires : goal.cut_geometry-requires
 cut_geometry-requires c = (
@@ -26,5 +33,6 @@ cut_geometry-requires c = (
 )
 
 pub returns-in-Absent : goal.returns-in-Absent
-returns-in-Absent c = let sound : Old c.args.hall.now c.args.n = old _ _ (λ i. search rules) c.requires.0 in
-    geometry-lacks _ _ sound _ _ _ (sym c.geometry_at.ensures ∙ c.in-Absent.is) c.refused.ensures
+returns-in-Absent c =
+    let k = (goal.at.returns-in-Absent c).After-slice_known-1 in
+    geometry-lacks _ _ (sound k) _ _ _ (sym c.geometry_at.ensures ∙ c.in-Absent.is) c.refused.ensures

@@ -9,18 +9,25 @@ use Rattle.halls.proofs.edit.AttributeSet.{component-some, set-no_vertex, set-mi
 use Rattle.halls.proofs.check.SpotLaws.{Spot, spot, Spot-inside}
 use Rattle.halls.proofs.edit.StepLaws.{old, answered}
 use Rattle.halls.proofs.edit.set_attribute.set_in_geometry.Goals as goal
+use Rattle.halls.proofs.edit.set_attribute.set_in_geometry.Goals.{After-slice_known-1}
+
+here : (c : After-slice_known-1) → let a = c.args in Spot a.hall.now a.n a.model a.geometry a.at
+here c = spot (old _ _ (λ i. search rules) c.requires.0) _ _ _ c.requires.1
 
 pub overflow_add-at : goal.overflow_add-at
-overflow_add-at c = let here : let a = c.args in Spot a.hall.now a.n a.model a.geometry a.at = spot (old _ _ (λ i. search rules) c.requires.0) _ _ _ c.requires.1 in
-    omega (arith, Spot-inside here)
+overflow_add-at c =
+    let k = (goal.at.overflow_add-at c).After-slice_known-1 in
+    omega (arith, Spot-inside (here k))
 
 pub returns-then-u16_le-vertex : goal.returns-then-u16_le-vertex
-returns-then-u16_le-vertex c = let here : let a = c.args in Spot a.hall.now a.n a.model a.geometry a.at = spot (old _ _ (λ i. search rules) c.requires.0) _ _ _ c.requires.1 in
-    answered c.refused.ensures (set-no_vertex _ _ _ _ _ _ _ here c.u16_le.ensures c.if-u16_le-vertex.true)
+returns-then-u16_le-vertex c =
+    let k = (goal.at.returns-then-u16_le-vertex c).After-slice_known-1 in
+    answered c.refused.ensures (set-no_vertex _ _ _ _ _ _ _ (here k) c.u16_le.ensures c.if-u16_le-vertex.true)
 
 pub overflow_add-at-2 : goal.overflow_add-at-2
-overflow_add-at-2 c = let here : let a = c.args in Spot a.hall.now a.n a.model a.geometry a.at = spot (old _ _ (λ i. search rules) c.requires.0) _ _ _ c.requires.1 in
-    omega (arith, Spot-inside here)
+overflow_add-at-2 c =
+    let k = (goal.at.overflow_add-at-2 c).After-slice_known-1 in
+    omega (arith, Spot-inside (here k))
 
 pub set_component-requires : goal.set_component-requires
 set_component-requires c = let looked : let a = c.args in c.component.result ≡ found_component (component_of (declaration_at a.hall.now (a.at + 26)) a.semantic) = let a = c.args in
@@ -33,9 +40,10 @@ set_component-requires c = let looked : let a = c.args in c.component.result ≡
     )
 
 pub returns-in-Missing : goal.returns-in-Missing
-returns-in-Missing c = let here : let a = c.args in Spot a.hall.now a.n a.model a.geometry a.at = spot (old _ _ (λ i. search rules) c.requires.0) _ _ _ c.requires.1 in
+returns-in-Missing c =
+    let k = (goal.at.returns-in-Missing c).After-slice_known-1 in
     let looked : let a = c.args in c.component.result ≡ found_component (component_of (declaration_at a.hall.now (a.at + 26)) a.semantic) = let a = c.args in
     c.component.ensures ∙ ap (λ (d : VertexDeclaration). found_component (component_of d a.semantic)) c.read_declaration.ensures in
     answered c.refused-in-Missing.ensures
-    (set-missing _ _ _ _ _ _ c.args.value here (omega (arith, c.u16_le.ensures, c.if-u16_le-vertex.false))
+    (set-missing _ _ _ _ _ _ c.args.value (here k) (omega (arith, c.u16_le.ensures, c.if-u16_le-vertex.false))
     (sym c.in-Missing.is ∙ looked))
