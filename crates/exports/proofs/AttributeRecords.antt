@@ -1,32 +1,26 @@
 -- Attributes as records of 20 bytes: their lengths, a loop that writes them, and the answer of the vertex layer as an outcome.
-use mathlib.Core.Path.{◌≡◌, refl, sym, ap, subst, ◌∙◌}
-use mathlib.Core.Bool.{Bool, true, false, cond}
-use mathlib.Core.List.{List, [], ◌∷◌, ◌++◌, map}
-use Prim.Native.Nat.{ℕ, ◌+◌, ◌-◌, ◌*◌, ◌/◌, ◌%◌, ◌≤◌, ◌<◌}
+use Rattle.std.proofs.Common.{◌≡◌, refl, sym, ap, subst, ◌∙◌, Bool, true, false, cond, List, [], ◌∷◌, ◌++◌, map, ℕ, suc, ◌+◌, ◌*◌, ◌/◌, ◌%◌, ◌≤◌, ◌<◌, length, ltb, Result, Ok, Err, arith, length-append, append_assoc}
+use mathlib.Core.List.{append-nil}
 use native.Mathlib.Nat.{add_comm, suc-mul, zero-add}
-use native.Mathlib.Numerals.{add-one}
-use native.Mathlib.Omega.{arith}
-use borrow.Author.Tests.{eq-eqb, ne_eqb}
-use lib.Dec.{ltb}
-use lib.ListN.{length, take, get_or, replicate, length-append, length-map, length-replicate}
-use lib.Seq.{length-take-le, take_at, take-suc}
+use lib.ListN.{length-map}
 use Rattle.sections.specs.Edit.{overwrite}
 use Rattle.sections.specs.Le.{bytes}
-use Rattle.vertices.specs.Attribute.{all_inside, attribute_at, attribute_list, attributes_at, attributes_of, empty_attribute}
+use Rattle.sections.proofs.EditLaws.{overwrite-behind, overwrite-length, overwrite-none}
+use Rattle.vertices.specs.Attribute.{all_inside, attribute_at, attribute_check, attributes_at, attributes_of}
 use Rattle.vertices.specs.Declaration.{components_of}
 use Rattle.vertices.specs.Runs.{run}
 use Rattle.vertices.specs.declared.attribute.VertexAttribute.{VertexAttribute}
-use Rattle.vertices.specs.declared.attribute.VertexAttributes.{VertexAttributes}
 use Rattle.vertices.specs.declared.attribute.VertexAttributeValue.{VertexAttributeValue}
 use Rattle.vertices.specs.declared.attribute.VertexAttributeValue.TheVariants.{One, Two, Three, Four, Bytes, Unsupported}
+use Rattle.vertices.specs.declared.attributes.AttributeError.{AttributeError}
+use Rattle.vertices.specs.declared.attributes.AttributeError.TheVariants.{NoSuchVertex, ComponentOutside}
 use Rattle.vertices.specs.declared.declaration.VertexDeclaration.{VertexDeclaration}
 use Rattle.vertices.specs.declared.values.Bytes4.{Bytes4}
 use Rattle.vertices.proofs.ComponentLaws.{components_few}
-use Rattle.vertices.proofs.RunLoops.{Writing, writing_start, Writing-turn, Writing-end}
 use Rattle.halls.specs.List.{each}
+use Rattle.halls.specs.Outcome.{refusal}
 use Rattle.halls.proofs.EachLaws.{each_snoc}
-use Rattle.halls.specs.Outcome.{Outcome, refusal}
-use Rattle.exports.specs.Attributes.{padded_bytes, attribute_bytes, attributes_outcome, answer_outcome}
+use Rattle.exports.specs.Attributes.{padded_bytes, attribute_bytes, recorded, attributes_outcome}
 use Rattle.exports.specs.Told.{Told, fitting}
 
 -- ---- one record
@@ -65,65 +59,58 @@ unfolding each
 records_length_lem [] = refl
 records_length_lem (a ∷ l) = rw (length-append, Record-length a, records_length_lem l, suc-mul) (add_comm 20 (length l * 20))
 
--- of the first n items
-pub taken-length : (l : List VertexAttribute) (n : ℕ) → n ≤ length l → length (each attribute_bytes (take n l)) ≡ n * 20
-taken-length l n h = rw (records_length_lem, length-take-le n l h)
-
 -- ---- a loop that writes them, one a turn
 
--- out with the first i records of `count` written, b
-pub record Recording (items : List VertexAttribute) (out : List ℕ) (count : ℕ) (b : List ℕ) (i : ℕ) : Type 0 where
-  pub enough : count ≤ length items
-  pub writing : Writing 20 (λ j. each attribute_bytes (take j items)) out 0 count b i
+-- out with the records of the attributes that were passed written, b; the others, `left`, begin at `at`
+pub record Recording (all passed left : List VertexAttribute) (out b : List ℕ) (at : ℕ) : Type 0 where
+  pub whole : passed ++ left ≡ all
+  pub is : b ≡ overwrite out 0 (each attribute_bytes passed)
+  pub same : length b ≡ length out
+  pub place : at ≡ length passed * 20
 
 -- before the first
-pub Recording-start : {items : List VertexAttribute} {out : List ℕ} {count : ℕ} → count ≤ length items → count * 20 ≤ length out → Recording items out count out 0
+pub recording_start : (all : List VertexAttribute) (out : List ℕ) → Recording all [] all out out 0
 unfolding each
-Recording-start h l = record { enough = h; writing = writing_start refl (omega arith) }
+recording_start all out = record { whole = refl; is = sym (overwrite-none out 0); same = refl; place = refl }
 
-module _ {items : List VertexAttribute} {out : List ℕ} {count : ℕ} {b : List ℕ} {i : ℕ} (c : Recording items out count b i) where
+module _ {all passed left : List VertexAttribute} {out b : List ℕ} {at : ℕ} (r : Recording all passed left out b at) (room : length all * 20 ≤ length out) where
+  -- there is room for one more
+  pub recording_room : {a : VertexAttribute} {rest : List VertexAttribute} → left ≡ a ∷ rest → at + 20 ≤ length b
+  recording_room {a} {rest} e =
+      let n : length passed + suc (length rest) ≡ length all = sym (length-append passed (a ∷ rest)) ∙ ap length (rw e at r.whole) in
+      omega (arith, r.place, r.same)
+
   -- one more
-  pub Recording-turn : {t : List ℕ} {a : VertexAttribute} (d : VertexAttribute) → i < count → a ≡ get_or items i d → t ≡ overwrite b (i * 20) (attribute_bytes a) → Recording items out count t (i + 1)
-  Recording-turn {t} {a} d h e f =
-      let low : i ≤ length items = omega (arith, c.enough) in
-      let here : i < length items = omega (arith, c.enough) in
-      let size : length (each attribute_bytes (take i items)) ≡ i * 20 = taken-length items i low in
-      let joined : each attribute_bytes (take (i + 1) items) ≡ each attribute_bytes (take i items) ++ attribute_bytes a = rw (add-one, take-suc items i d, ← e, each_snoc) in
-      let put : t ≡ overwrite b ((0 + i) * 20) (attribute_bytes a) = rw zero-add f in
-      record { enough = c.enough; writing = Writing-turn c.writing 1 (attribute_bytes a) (omega arith) size (Record-length a) joined put }
+  pub recording_turn : {a : VertexAttribute} {rest : List VertexAttribute} {t : List ℕ} {next : ℕ} → left ≡ a ∷ rest → t ≡ overwrite b at (attribute_bytes a) → next ≡ at + 20
+      → Recording all (passed ++ a ∷ []) rest out t next
+  recording_turn {a} {rest} {t} {next} e f g =
+      let here = recording_room e in
+      let fits : 0 + at + length (attribute_bytes a) ≤ length out = rw Record-length (omega (arith, here, r.same)) in
+      record {
+        whole = rw append_assoc (rw e at r.whole);
+        is = rw each_snoc (overwrite-behind out 0 (each attribute_bytes passed) at (attribute_bytes a) r.is (rw records_length_lem (sym r.place)) (rw zero-add f) fits);
+        same = ap length f ∙ overwrite-length b at (attribute_bytes a) (rw Record-length (recording_room e)) ∙ r.same;
+        place = rw length-append (omega (arith, r.place));
+      }
 
   -- after the last
-  pub Recording-end : i ≡ count → b ≡ overwrite out 0 (each attribute_bytes (take count items))
-  Recording-end e = Writing-end c.writing e
+  pub recording_end : left ≡ [] → b ≡ overwrite out 0 (each attribute_bytes all)
+  recording_end e = r.is ∙ ap (λ (l : List VertexAttribute). overwrite out 0 (each attribute_bytes l)) (sym (append-nil passed) ∙ rw e at r.whole)
 
 -- ---- the answer of the vertex layer
 
-module _ (a : VertexAttributes) {out : List ℕ} where
+module _ {out : List ℕ} where
   -- refused
-  pub refused_told : (a.refusal ≡ 0 → ⊥) → Told (answer_outcome a (length out)) out a.refusal out 0
-  unfolding answer_outcome
-  refused_told h = rw (ne_eqb a.refusal 0 h) (record { number = refl; output = refl; size = refl })
+  pub refused_told : (e : AttributeError) → Told (recorded (length out) (Err e)) out (attribute_check e) out 0
+  refused_told e = record { number = refl; output = refl; size = refl }
 
   -- accepted
-  pub accepted_told : a.refusal ≡ 0 → {r : ℕ} {t : List ℕ} {n : ℕ} → Told (fitting (length out) (each attribute_bytes (take a.count a.items))) out r t n → Told (answer_outcome a (length out)) out r t n
-  unfolding answer_outcome
-  accepted_told h told = rw (eq-eqb a.refusal 0 h) told
-
--- its array has 16 items, and its count is at most that
-list_sound : (number : ℕ) (l : List VertexAttribute) → length l ≤ 16 → ((attribute_list number l).count ≤ 16) × (length (attribute_list number l).items ≡ 16)
-unfolding attribute_list
-list_sound number l h = (h, simp (length-append, length-replicate) (omega arith))
-
-sound_of : (first second : Bool) (l : List VertexAttribute) → length l ≤ 16 → (a : VertexAttributes) → a ≡ cond first (cond second (attribute_list 0 l) (attribute_list 9 [])) (attribute_list 8 [])
-    → (a.count ≤ 16) × (length a.items ≡ 16)
-sound_of true true l h a e = subst (λ (x : VertexAttributes). (x.count ≤ 16) × (length x.items ≡ 16)) (sym e) (list_sound 0 l h)
-sound_of true false l h a e = subst (λ (x : VertexAttributes). (x.count ≤ 16) × (length x.items ≡ 16)) (sym e) (list_sound 9 [] (omega arith))
-sound_of false second l h a e = subst (λ (x : VertexAttributes). (x.count ≤ 16) × (length x.items ≡ 16)) (sym e) (list_sound 8 [] (omega arith))
+  pub accepted_told : (l : List VertexAttribute) {r : ℕ} {t : List ℕ} {n : ℕ} → Told (fitting (length out) (each attribute_bytes l)) out r t n → Told (recorded (length out) (Ok l)) out r t n
+  accepted_told l told = told
 
 outcome-of : (first second : Bool) (l : List VertexAttribute) (room : ℕ)
-    → answer_outcome (cond first (cond second (attribute_list 0 l) (attribute_list 9 [])) (attribute_list 8 [])) room ≡ cond first (cond second (fitting room (each attribute_bytes l)) (refusal 9 0)) (refusal 8 0)
-unfolding answer_outcome attribute_list
-outcome-of true true l room = ap (λ (x : List VertexAttribute). fitting room (each attribute_bytes x)) (take_at l (replicate (16 - length l) empty_attribute) (length l) refl)
+    → recorded room (cond first (cond second (Ok l) (Err ComponentOutside)) (Err NoSuchVertex)) ≡ cond first (cond second (fitting room (each attribute_bytes l)) (refusal 9 0)) (refusal 8 0)
+outcome-of true true l room = refl
 outcome-of true false l room = refl
 outcome-of false second l room = refl
 
@@ -132,20 +119,33 @@ module _ (s : List ℕ) (stride count : ℕ) (d : VertexDeclaration) (index : �
   abbrev attributes : List VertexAttribute
   attributes = map (attribute_at s (index * stride)) (components_of d)
 
-  pub answer_sound : {a : VertexAttributes} → a ≡ attributes_of s stride count d index → (a.count ≤ 16) × (length a.items ≡ 16)
+  -- check 8, then check 9, then the room for their records
+  answer_outcome_lem : {a : Result (List VertexAttribute) AttributeError} (room : ℕ) → a ≡ attributes_of s stride count d index
+      → recorded room a ≡ cond (ltb index count) (cond (all_inside (length s) (index * stride) (components_of d)) (fitting room (each attribute_bytes attributes)) (refusal 9 0)) (refusal 8 0)
   unfolding attributes_of attributes_at
-  answer_sound {a} e =
-      let few : length attributes ≤ 16 = rw length-map (components_few d) in
-      sound_of (ltb index count) (all_inside (length s) (index * stride) (components_of d)) attributes few a e
-
-  answer_outcome_lem : {a : VertexAttributes} (room : ℕ) → a ≡ attributes_of s stride count d index → answer_outcome a room ≡ attributes_outcome s stride count d index room
-  unfolding attributes_of attributes_at attributes_outcome
-  answer_outcome_lem room e =
-      ap (λ (x : VertexAttributes). answer_outcome x room) e ∙ outcome-of (ltb index count) (all_inside (length s) (index * stride) (components_of d)) attributes room
+  answer_outcome_lem room e = ap (recorded room) e ∙ outcome-of (ltb index count) (all_inside (length s) (index * stride) (components_of d)) attributes room
 
 -- d is the declaration that was made, e the one that was meant
-pub answer_told : (s : List ℕ) (stride count : ℕ) (d : VertexDeclaration) (index : ℕ) {e : VertexDeclaration} → d ≡ e → {a : VertexAttributes} → a ≡ attributes_of s stride count d index
-    → {out : List ℕ} {r : ℕ} {t : List ℕ} {n : ℕ} → Told (answer_outcome a (length out)) out r t n → Told (attributes_outcome s stride count e index (length out)) out r t n
+pub answer_told : (s : List ℕ) (stride count : ℕ) (d : VertexDeclaration) (index : ℕ) {e : VertexDeclaration} → d ≡ e → {a : Result (List VertexAttribute) AttributeError} → a ≡ attributes_of s stride count d index
+    → {out : List ℕ} {r : ℕ} {t : List ℕ} {n : ℕ} → Told (recorded (length out) a) out r t n → Told (attributes_outcome s stride count e index (length out)) out r t n
 answer_told s stride count d index p {a} h {out} {r} {t} {n} told =
     subst (λ (x : VertexDeclaration). Told (attributes_outcome s stride count x index (length out)) out r t n) p
-    (subst (λ (o : Outcome). Told o out r t n) (answer_outcome_lem s stride count d index (length out) h) told)
+    (subst (λ (b : Result (List VertexAttribute) AttributeError). Told (recorded (length out) b) out r t n) h told)
+
+accepted_from : (first second : Bool) (l m : List VertexAttribute)
+    → ◌≡◌ {A = Result (List VertexAttribute) AttributeError} (Ok l) (cond first (cond second (Ok m) (Err ComponentOutside)) (Err NoSuchVertex)) → l ≡ m
+accepted_from true true l m e = cc
+accepted_from true false l m e = cc
+accepted_from false second l m e = cc
+
+-- at most 16 attributes are accepted
+pub accepted_few : (s : List ℕ) (stride count : ℕ) (d : VertexDeclaration) (index : ℕ) {l : List VertexAttribute} → Ok l ≡ attributes_of s stride count d index → length l ≤ 16
+unfolding attributes_of attributes_at
+accepted_few s stride count d index {l} h =
+    let e = accepted_from (ltb index count) (all_inside (length s) (index * stride) (components_of d)) l (map (attribute_at s (index * stride)) (components_of d)) h in
+    rw (e, length-map) (components_few d)
+
+-- and so many stand in the answer, whatever it is
+pub answer_sound : (s : List ℕ) (stride count : ℕ) (d : VertexDeclaration) (index : ℕ) {a : Result (List VertexAttribute) AttributeError} → a ≡ attributes_of s stride count d index
+    → (l : List VertexAttribute) → a ≡ Ok l → length l ≤ 16
+answer_sound s stride count d index e l h = accepted_few s stride count d index (sym h ∙ e)

@@ -1,3 +1,3 @@
 pub mod ToldLaws
 pub mod AttributeRecords
-pub mod EditingLaws
+pub mod ValueLaws

@@ -1,8 +1,8 @@
 -- From the libraries' answers to what C is told.
+use Rattle.std.specs.Prelude.{Some}
 use mathlib.Core.Path.{◌≡◌, refl, sym, ap, subst, ◌∙◌}
 use mathlib.Core.Bool.{Bool, true, false, cond, ◌&&◌}
 use mathlib.Core.List.{List}
-use mathlib.Core.Option.{some}
 use Prim.Native.Nat.{ℕ, ◌+◌, ◌-◌, ◌*◌, ◌/◌, ◌^◌, ◌≤◌, ◌<◌, min}
 use native.Mathlib.Nat.{zero-add}
 use native.Mathlib.Omega.{arith}
@@ -13,7 +13,7 @@ use Rattle.sections.specs.Address.{Sections}
 use Rattle.sections.specs.Edit.{overwrite}
 use Rattle.sections.specs.Le.{bytes}
 use Rattle.sections.specs.declared.lookup.Located.{Located}
-use Rattle.sections.specs.declared.lookup.Located.TheVariants.{System, Graphics, Nothing}
+use Rattle.sections.specs.declared.lookup.Located.TheVariants.{System, Graphics}
 use Rattle.sections.proofs.AddressLaws.{HasBytes}
 use Rattle.vertices.specs.Buffer.{vertex_buffer_at}
 use Rattle.vertices.specs.ByteRuns.{Widened}
@@ -21,14 +21,13 @@ use Rattle.vertices.specs.Runs.{converted, Converted}
 use Rattle.vertices.specs.Unified.{Unified, stated, unified_run, vertices_inside}
 use Rattle.vertices.specs.declared.buffer.VertexBuffer.{VertexBuffer}
 use Rattle.vertices.specs.declared.declaration.VertexDeclaration.{VertexDeclaration}
-use Rattle.vertices.specs.declared.runs.RunAnswer.{RunAnswer}
-use Rattle.vertices.specs.declared.runs.RunAnswer.TheVariants.{Written, Needs}
-use Rattle.vertices.specs.declared.unify.UnifyAnswer.{UnifyAnswer}
+use Rattle.std.specs.Prelude.{Result, Ok, Err}
+use Rattle.vertices.specs.declared.runs.NeedsBytes.{NeedsBytes}
+use Rattle.vertices.specs.declared.unify.UnifyError.{UnifyError}
 use Rattle.vertices.proofs.BufferLaws.{buffer_data}
 use Rattle.vertices.proofs.RunLaws.{converted-length}
 use Rattle.vertices.proofs.UnifiedBytes.{length-unified_run}
-use Rattle.halls.specs.Outcome.{Outcome, refusal, written, answer_of, after}
-use Rattle.halls.specs.declared.answer.Answer.{Answer}
+use Rattle.halls.specs.Outcome.{Outcome, refusal, written, answer_of}
 use Rattle.exports.specs.Buffers.{section_number, stored_bytes, buffer_bytes}
 use Rattle.exports.specs.Told.{Told, number_of, length_of, fitting, fitting_capped, answer_number, answer_length, run_number, run_length}
 use Rattle.exports.specs.Unify.{unified_outcome}
@@ -41,10 +40,6 @@ answer_number_lem (written b) = refl
 answer_length_lem : (o : Outcome) → answer_length (answer_of o) ≡ length_of o
 answer_length_lem (refusal check needed) = refl
 answer_length_lem (written b) = refl
-
--- a call of halls
-pub answer_told : (o : Outcome) {d : List ℕ} {a : Answer} {r : ℕ} {t : List ℕ} {n : ℕ} → a ≡ answer_of o → t ≡ after o d → r ≡ answer_number a → n ≡ answer_length a → Told o d r t n
-answer_told o e output f g = record { number = f ∙ ap answer_number e ∙ answer_number_lem o; output = output; size = g ∙ ap answer_length e ∙ answer_length_lem o }
 
 -- ---- bytes into an output
 
@@ -62,13 +57,13 @@ module _ (b : List ℕ) {d : List ℕ} where
 -- ---- runs
 
 -- the run b, of `whole` bytes, of which `needed` are said to be needed where it does not fit
-run-told : (ok : Bool) (b d : List ℕ) (whole needed : ℕ) → length b ≡ whole → {a : RunAnswer} {r : ℕ} {t : List ℕ} {n : ℕ} → a ≡ cond ok (Written whole) (Needs needed) → t ≡ cond ok (overwrite d 0 b) d
+run-told : (ok : Bool) (b d : List ℕ) (whole needed : ℕ) → length b ≡ whole → {a : Result ℕ NeedsBytes} {r : ℕ} {t : List ℕ} {n : ℕ} → a ≡ cond ok (Ok whole) (Err (record { 0 = needed })) → t ≡ cond ok (overwrite d 0 b) d
     → r ≡ run_number a → n ≡ run_length a → Told (cond ok (written b) (refusal 10 needed)) d r t n
 run-told true b d whole needed l e f g h = record { number = g ∙ ap run_number e; output = f; size = h ∙ ap run_length e ∙ sym l }
 run-told false b d whole needed l e f g h = record { number = g ∙ ap run_number e; output = f; size = h ∙ ap run_length e }
 
 -- a run of numbers
-pub converted-told : {k m : ℕ} {f : ℕ → ℕ} {s d : List ℕ} {a : RunAnswer} {r : ℕ} {t : List ℕ} {n : ℕ} → Converted k m f s d a t → r ≡ run_number a → n ≡ run_length a
+pub converted-told : {k m : ℕ} {f : ℕ → ℕ} {s d : List ℕ} {a : Result ℕ NeedsBytes} {r : ℕ} {t : List ℕ} {n : ℕ} → Converted k m f s d a t → r ≡ run_number a → n ≡ run_length a
     → Told (fitting (length d) (converted k m f (length s / k) s)) d r t n
 unfolding fitting
 converted-told {k} {m} {f} {s} {d} c g h =
@@ -79,7 +74,7 @@ converted-told {k} {m} {f} {s} {d} c g h =
     rw l (run-told (leb whole (length d)) b d whole whole l (rw same at c.answer) (rw same at c.bytes) g h)
 
 -- a run of bytes made floats
-pub Widened-told : {f : ℕ → ℕ} {s d : List ℕ} {a : RunAnswer} {r : ℕ} {t : List ℕ} {n : ℕ} → Widened f s d a t → r ≡ run_number a → n ≡ run_length a
+pub Widened-told : {f : ℕ → ℕ} {s d : List ℕ} {a : Result ℕ NeedsBytes} {r : ℕ} {t : List ℕ} {n : ℕ} → Widened f s d a t → r ≡ run_number a → n ≡ run_length a
     → Told (fitting_capped (length d) (converted 1 4 f (length s) s)) d r t n
 unfolding fitting_capped
 Widened-told {f} {s} {d} c g h =
@@ -99,7 +94,7 @@ unify_told false true b d whole l e f g h = record { number = g ∙ ap (λ (p : 
 unify_told false false b d whole l e f g h = record { number = g ∙ ap (λ (p : ℕ × ℕ). p.0) e; output = f; size = h ∙ ap (λ (p : ℕ × ℕ). p.1) e }
 
 -- d is the declaration that was made, e the one that was meant
-pub Unified-told : {d e : VertexDeclaration} → d ≡ e → {s : List ℕ} {stride count : ℕ} {out : List ℕ} {a : UnifyAnswer} {r : ℕ} {t : List ℕ} {n : ℕ} → Unified d s stride count out a t → r ≡ (stated a).0 → n ≡ (stated a).1
+pub Unified-told : {d e : VertexDeclaration} → d ≡ e → {s : List ℕ} {stride count : ℕ} {out : List ℕ} {a : Result ℕ UnifyError} {r : ℕ} {t : List ℕ} {n : ℕ} → Unified d s stride count out a t → r ≡ (stated a).0 → n ≡ (stated a).1
     → Told (unified_outcome e s stride count (length out)) out r t n
 unfolding unified_outcome fitting
 Unified-told {d} {e} p {s} {stride} {count} {out} {a} {r} {t} {n} c g h =
@@ -118,13 +113,9 @@ unfolding buffer_bytes bytes
 buffer_length_lem b = omega arith
 
 -- the section of a buffer that was found is 0 or 1
-pub Found-section : (s : Sections) (va pointer count stride : ℕ) (b : VertexBuffer) → vertex_buffer_at s va pointer count stride ≡ some b → section_number b.«data» ≤ 1
+pub Found-section : (s : Sections) (va pointer count stride : ℕ) (b : VertexBuffer) → vertex_buffer_at s va pointer count stride ≡ Some b → section_number b.«data» ≤ 1
 Found-section s va pointer count stride b e = of-bytes b.«data» _ (buffer_data s va pointer count stride b e).bytes
   where
     of-bytes : (place : Located) (n : ℕ) → HasBytes s place n → section_number place ≤ 1
     of-bytes (System at) n h = omega arith
     of-bytes (Graphics at) n h = omega arith
-    of-bytes Nothing n h =
-        let e = h.is in
-        let z : ◌≡◌ {A = ℕ} 0 1 = cc in
-        absurd (omega arith)

@@ -1,15 +1,14 @@
 -- The attributes of a vertex as bytes: for each component a record of 20 bytes.
-use Rattle.std.specs.Prelude.{cond, List, [], ◌∷◌, ◌++◌, map, ℕ, ◌*◌, ◌-◌, eqb, ltb, length, replicate, take}
+use Rattle.std.specs.Prelude.{List, [], ◌∷◌, ◌++◌, ℕ, ◌-◌, length, replicate, Result, Ok, Err}
 use Rattle.sections.specs.Le.{bytes}
-use Rattle.vertices.specs.Attribute.{all_inside, attribute_at}
-use Rattle.vertices.specs.Declaration.{components_of}
+use Rattle.vertices.specs.Attribute.{attribute_check, attributes_of}
 use Rattle.vertices.specs.Runs.{run}
 use Rattle.vertices.specs.Types.{nibble_of}
 use Rattle.vertices.specs.Unified.{vec2_bytes, vec3_bytes, vec4_bytes, bytes4_bytes}
 use Rattle.vertices.specs.declared.attribute.VertexAttribute.{VertexAttribute}
-use Rattle.vertices.specs.declared.attribute.VertexAttributes.{VertexAttributes}
 use Rattle.vertices.specs.declared.attribute.VertexAttributeValue.{VertexAttributeValue}
 use Rattle.vertices.specs.declared.attribute.VertexAttributeValue.TheVariants.{One, Two, Three, Four, Bytes, Unsupported}
+use Rattle.vertices.specs.declared.attributes.AttributeError.{AttributeError}
 use Rattle.vertices.specs.declared.declaration.VertexDeclaration.{VertexDeclaration}
 use Rattle.halls.specs.List.{each}
 use Rattle.halls.specs.Outcome.{Outcome, refusal}
@@ -34,14 +33,11 @@ attribute_bytes a =
     bytes 1 a.component.semantic_index ++ bytes 1 (nibble_of a.component.component_type) ++ bytes 2 a.component.offset
     ++ padded_bytes a.value
 
--- the attributes of the vertex `index` of `count` into `room` bytes: checks 8, 9 and 10
-unfoldable pub attributes_outcome : List ℕ → ℕ → ℕ → VertexDeclaration → ℕ → ℕ → Outcome
-attributes_outcome s stride count d index room =
-    cond (ltb index count)
-    (cond (all_inside (length s) (index * stride) (components_of d)) (fitting room (each attribute_bytes (map (attribute_at s (index * stride)) (components_of d))))
-    (refusal 9 0))
-    (refusal 8 0)
+-- attributes into `room` bytes, or the check that failed
+abbrev pub recorded : ℕ → Result (List VertexAttribute) AttributeError → Outcome
+recorded room (Ok attributes) = fitting room (each attribute_bytes attributes)
+recorded room (Err e) = refusal (attribute_check e) 0
 
--- an answer of `read_vertex_attributes`, into `room` bytes
-unfoldable pub answer_outcome : VertexAttributes → ℕ → Outcome
-answer_outcome a room = cond (eqb a.refusal 0) (fitting room (each attribute_bytes (take a.count a.items))) (refusal a.refusal 0)
+-- the attributes of the vertex `index` of `count` into `room` bytes: checks 8, 9 and 10
+abbrev pub attributes_outcome : List ℕ → ℕ → ℕ → VertexDeclaration → ℕ → ℕ → Outcome
+attributes_outcome s stride count d index room = recorded room (attributes_of s stride count d index)

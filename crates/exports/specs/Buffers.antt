@@ -1,31 +1,26 @@
 -- A located vertex buffer as bytes: layout u8, stride u16, count u32, data pointer u64, info pointer u64, section u8, offset u64, and the declaration's 16
 -- bytes where one is stored.
-use Rattle.std.specs.Prelude.{List, [], ◌++◌, ℕ}
+use Rattle.std.specs.Prelude.{List, [], ◌++◌, ℕ, Option, None, Some}
 use Rattle.sections.specs.Le.{bytes}
 use Rattle.sections.specs.declared.lookup.Located.{Located}
-use Rattle.sections.specs.declared.lookup.Located.TheVariants.{System, Graphics, Nothing}
+use Rattle.sections.specs.declared.lookup.Located.TheVariants.{System, Graphics}
 use Rattle.vertices.specs.Buffer.{layout_number}
 use Rattle.vertices.specs.Declaration.{declaration_bytes}
-use Rattle.vertices.specs.declared.buffer.FoundBuffer.{FoundBuffer}
-use Rattle.vertices.specs.declared.buffer.FoundBuffer.TheVariants.{Buffer, NotFound}
-use Rattle.vertices.specs.declared.buffer.StoredDeclaration.{StoredDeclaration}
-use Rattle.vertices.specs.declared.buffer.StoredDeclaration.TheVariants.{Declaration, Absent}
 use Rattle.vertices.specs.declared.buffer.VertexBuffer.{VertexBuffer}
+use Rattle.vertices.specs.declared.declaration.VertexDeclaration.{VertexDeclaration}
 
 -- 0 for system and 1 for graphics; the data of a buffer that was found lies in one of them
 abbrev pub section_number : Located → ℕ
 section_number (System at) = 0
 section_number (Graphics at) = 1
-section_number Nothing = 2
 
 abbrev pub offset_of : Located → ℕ
 offset_of (System at) = at
 offset_of (Graphics at) = at
-offset_of Nothing = 0
 
-abbrev pub stored_bytes : StoredDeclaration → List ℕ
-stored_bytes (Declaration d) = declaration_bytes d
-stored_bytes Absent = []
+abbrev pub stored_bytes : Option VertexDeclaration → List ℕ
+stored_bytes (Some d) = declaration_bytes d
+stored_bytes None = []
 
 -- layout, stride, count and the two pointers: 23 bytes
 abbrev pub head_bytes : VertexBuffer → List ℕ
@@ -41,6 +36,6 @@ unfoldable pub buffer_bytes : VertexBuffer → List ℕ
 buffer_bytes b = head_bytes b ++ place_bytes b.«data» ++ stored_bytes b.declaration
 
 -- none where no buffer was found
-abbrev pub found_bytes : FoundBuffer → List ℕ
-found_bytes (Buffer b) = buffer_bytes b
-found_bytes NotFound = []
+abbrev pub found_bytes : Option VertexBuffer → List ℕ
+found_bytes (Some b) = buffer_bytes b
+found_bytes None = []

@@ -1,12 +1,11 @@
 -- What C sees of a call: the number of the check that failed, 0 where none did, the lent output afterwards, and the bytes written or needed.
 use Rattle.std.specs.Prelude.{◌≡◌, cond, List, ℕ, ◌-◌, ◌^◌, min, leb, length}
-use Rattle.vertices.specs.declared.runs.RunAnswer.{RunAnswer}
-use Rattle.vertices.specs.declared.runs.RunAnswer.TheVariants.{Written, Needs}
+use Rattle.vertices.specs.declared.runs.NeedsBytes.{NeedsBytes}
 use Rattle.halls.specs.Outcome.{Outcome, refusal, written, after}
-use Rattle.halls.specs.declared.answer.Answer.{Answer}
-use Rattle.halls.specs.declared.answer.Answer.TheVariants.{Accepted, Refused}
-use Rattle.halls.specs.declared.check.check.Verdict.{Verdict}
-use Rattle.halls.specs.declared.check.check.Verdict.TheVariants.{Sound, Fails}
+use Rattle.std.specs.Prelude.{Result, Ok, Err}
+use Prim.{Unit}
+use Rattle.halls.specs.declared.answer.Refusal.{Refusal}
+use Rattle.halls.specs.Verdict.{Verdict, Sound, Fails}
 
 abbrev pub number_of : Outcome → ℕ
 number_of (refusal check needed) = check
@@ -34,21 +33,25 @@ fitting_capped room b = cond (leb (length b) room) (written b) (refusal 10 (min 
 
 -- ---- number and length of the libraries' answers
 
-abbrev pub answer_number : Answer → ℕ
-answer_number (Accepted n) = 0
-answer_number (Refused r) = r.check
+abbrev pub answer_number : Result ℕ Refusal → ℕ
+answer_number (Ok n) = 0
+answer_number (Err r) = r.check
 
-abbrev pub answer_length : Answer → ℕ
-answer_length (Accepted n) = n
-answer_length (Refused r) = r.needed
+abbrev pub answer_length : Result ℕ Refusal → ℕ
+answer_length (Ok n) = n
+answer_length (Err r) = r.needed
 
-abbrev pub run_number : RunAnswer → ℕ
-run_number (Written n) = 0
-run_number (Needs n) = 10
+abbrev pub run_number : Result ℕ NeedsBytes → ℕ
+run_number (Ok n) = 0
+run_number (Err e) = 10
 
-abbrev pub run_length : RunAnswer → ℕ
-run_length (Written n) = n
-run_length (Needs n) = n
+abbrev pub run_length : Result ℕ NeedsBytes → ℕ
+run_length (Ok n) = n
+run_length (Err e) = e.0
+
+abbrev pub check_number : Result (Unit {0}) Refusal → ℕ
+check_number (Ok x) = 0
+check_number (Err r) = r.check
 
 abbrev pub verdict_number : Verdict → ℕ
 verdict_number Sound = 0

@@ -2,12 +2,12 @@
 ghost use Rattle.std.specs.Prelude.{◌≡◌, ◌+◌, ◌≤◌, length};
 ghost use Rattle.sections.specs.Address.{sections};
 ghost use Rattle.sections.specs.Edit.{overwrite};
-ghost use Rattle.vertices.specs.Buffer.{found_buffer, vertex_buffer_at};
+ghost use Rattle.vertices.specs.Buffer.{vertex_buffer_at};
 ghost use Rattle.exports.specs.Buffers.{section_number, offset_of, stored_bytes, head_bytes, place_bytes, buffer_bytes, found_bytes};
 ghost use Rattle.exports.specs.Told.{Told, fitting};
 
-use sections::{Located, put_u8_le, put_u16_le, put_u32_le, put_u64_le};
-use vertices::{FoundBuffer, StoredDeclaration, VertexBuffer, write_declaration};
+use sections::{Located, ResReader, put_u8_le, put_u16_le, put_u32_le, put_u64_le};
+use vertices::{VertexBuffer, VertexDeclaration, write_declaration};
 
 #[unsafe(no_mangle)]
 pub extern "C" fn calicofern_vertex_buffer<'a>(
@@ -20,11 +20,11 @@ pub extern "C" fn calicofern_vertex_buffer<'a>(
     out: &mut [u8],
     size: &mut u64,
 ) -> u8
-    ensures { Told (fitting (length out.old) (found_bytes (found_buffer (vertex_buffer_at (sections system.now graphics.now) va inline_pointer inline_count inline_stride)))) out.old result out.new size.new }
+    ensures { Told (fitting (length out.old) (found_bytes (vertex_buffer_at (sections system.now graphics.now) va inline_pointer inline_count inline_stride))) out.old result out.new size.new }
 {
+    let reader = ResReader::new(system, graphics);
     let found = vertices::parse_vertex_buffer_at(
-        system,
-        graphics,
+        &reader,
         va,
         inline_pointer,
         inline_count,
@@ -33,12 +33,12 @@ pub extern "C" fn calicofern_vertex_buffer<'a>(
     write_found(found, out, size)
 }
 
-fn write_found(found: FoundBuffer, out: &mut [u8], size: &mut u64) -> u8
+fn write_found(found: Option<VertexBuffer>, out: &mut [u8], size: &mut u64) -> u8
     ensures { Told (fitting (length out.old) (found_bytes found)) out.old result out.new size.new }
 {
     match found {
-        FoundBuffer::Buffer(buffer) => write_buffer(buffer, out, size),
-        FoundBuffer::NotFound => {
+        Some(buffer) => write_buffer(buffer, out, size),
+        None => {
             *size = 0;
             0
         }
@@ -86,47 +86,35 @@ fn put_place(out: &mut [u8], at: usize, place: Located)
     requires { at + 9 ≤ length out.old }
     ensures { out.new ≡ overwrite out.old at (place_bytes place) }
 {
-    put_u8_le(out, at, section_number(place));
-    put_u64_le(out, at + 1, offset_of(place));
+    let (section, offset) = place_numbers(place);
+    put_u8_le(out, at, section);
+    put_u64_le(out, at + 1, offset);
 }
 
-fn put_stored(out: &mut [u8], at: usize, declaration: StoredDeclaration)
+fn put_stored(out: &mut [u8], at: usize, declaration: Option<VertexDeclaration>)
     requires { at + length (stored_bytes declaration) ≤ length out.old }
     ensures { out.new ≡ overwrite out.old at (stored_bytes declaration) }
 {
-    match declaration {
-        StoredDeclaration::Declaration(d) => {
-            write_declaration(out, at, d);
-        }
-        StoredDeclaration::Absent => {}
+    if let Some(d) = declaration {
+        write_declaration(out, at, d);
     }
 }
 
-fn stored_length(declaration: StoredDeclaration) -> usize
+fn stored_length(declaration: Option<VertexDeclaration>) -> usize
     ensures { (result ≡ length (stored_bytes declaration)) × (result ≤ 16) }
 {
     match declaration {
-        StoredDeclaration::Declaration(_) => 16,
-        StoredDeclaration::Absent => 0,
+        Some(_) => 16,
+        None => 0,
     }
 }
 
-fn section_number(place: Located) -> u8
-    ensures { result ≡ section_number place }
+// The section's number, and the offset in it.
+fn place_numbers(place: Located) -> (u8, u64)
+    ensures { (result.0 ≡ section_number place) × (result.1 ≡ offset_of place) }
 {
     match place {
-        Located::System(_) => 0,
-        Located::Graphics(_) => 1,
-        Located::Nothing => 2,
-    }
-}
-
-fn offset_of(place: Located) -> u64
-    ensures { result ≡ offset_of place }
-{
-    match place {
-        Located::System(at) => at as u64,
-        Located::Graphics(at) => at as u64,
-        Located::Nothing => 0,
+        Located::System(at) => (0, at as u64),
+        Located::Graphics(at) => (1, at as u64),
     }
 }

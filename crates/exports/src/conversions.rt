@@ -1,4 +1,4 @@
-// One number at a time. A float is passed and returned as its bits.
+// One number at a time. A float is passed and returned as its bits. The C interface has a function for each.
 ghost use Rattle.std.specs.Prelude.{◌≡◌};
 ghost use Rattle.vertices.specs.Declaration.{declaration_id};
 ghost use Rattle.vertices.specs.Half.{f16_to_f32, f32_to_f16};

@@ -1,4 +1,4 @@
-// The calls that edit the hall in the first n bytes of a lent buffer.
+// The calls that edit the hall in the first n bytes of a lent buffer. The C interface passes every number as an argument of its own.
 ghost use Rattle.sections.specs.Address.{sections};
 ghost use Rattle.halls.specs.Calls.{add_model, add_geometry, remove_geometry, remove_model, set_attribute, replace_indices, take_in};
 ghost use Rattle.exports.specs.Editing.{ToldStep};
@@ -6,6 +6,7 @@ ghost use Rattle.exports.specs.Passed.{passed_value};
 
 use crate::told::told_answer;
 use crate::values::passed_value;
+use sections::ResReader;
 use vertices::VertexDeclaration;
 
 #[unsafe(no_mangle)]
@@ -138,5 +139,6 @@ pub extern "C" fn calicofern_take_in<'a>(
 ) -> u8
     ensures { ToldStep (take_in (sections system.now graphics.now) va) hall.old n result hall.new size.new }
 {
-    told_answer(halls::take_in(hall, n, system, graphics, va), size)
+    let reader = ResReader::new(system, graphics);
+    told_answer(halls::take_in(hall, n, &reader, va), size)
 }

@@ -7,7 +7,8 @@ ghost use Rattle.halls.specs.Records.{records};
 ghost use Rattle.halls.specs.Triangles.{triangles_in};
 ghost use Rattle.exports.specs.Told.{Told, verdict_number};
 
-use crate::told::{told_answer, told_verdict};
+use crate::told::{told_answer, told_check};
+use sections::ResReader;
 
 #[unsafe(no_mangle)]
 pub extern "C" fn calicofern_hall_list<'a>(
@@ -19,14 +20,15 @@ pub extern "C" fn calicofern_hall_list<'a>(
 ) -> u8
     ensures { Told (hall_list (sections system.now graphics.now) va (length list.old)) list.old result list.new size.new }
 {
-    told_answer(halls::hall_list(system, graphics, va, list), size)
+    let reader = ResReader::new(system, graphics);
+    told_answer(halls::hall_list(&reader, va, list), size)
 }
 
 #[unsafe(no_mangle)]
 pub extern "C" fn calicofern_hall_check(list: &[u8], n: usize) -> u8
     ensures { result ≡ verdict_number (hall_verdict list.now n) }
 {
-    told_verdict(halls::hall_check(list, n))
+    told_check(halls::hall_check(list, n))
 }
 
 #[unsafe(no_mangle)]

@@ -1,4 +1,4 @@
-// Runs of numbers, as little-endian bytes, over the first bytes of a lent output.
+// Runs of numbers, as little-endian bytes, over the first bytes of a lent output. The C interface has a function for each.
 ghost use Rattle.std.specs.Prelude.{◌/◌, length};
 ghost use Rattle.vertices.specs.Half.{f16_to_f32, f32_to_f16};
 ghost use Rattle.vertices.specs.Normalised.{snorm8_to_f32, unorm8_to_f32, f32_to_snorm8, f32_to_unorm8};

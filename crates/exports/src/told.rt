@@ -1,65 +1,65 @@
 // The libraries' answers as a number and a length.
 ghost use Rattle.std.specs.Prelude.{◌≡◌};
 ghost use Rattle.vertices.specs.Unified.{stated};
-ghost use Rattle.exports.specs.Told.{answer_number, answer_length, run_number, run_length, verdict_number};
+ghost use Rattle.exports.specs.Told.{answer_number, answer_length, run_number, run_length, check_number};
 
-use halls::{Answer, Verdict};
-use vertices::{RunAnswer, UnifyAnswer};
+use halls::Refusal;
+use vertices::{NeedsBytes, UnifyError};
 
-pub fn told_answer(answer: Answer, size: &mut u64) -> u8
+pub fn told_answer(answer: Result<u64, Refusal>, size: &mut u64) -> u8
     ensures { (result ≡ answer_number answer) × (size.new ≡ answer_length answer) }
 {
     match answer {
-        Answer::Accepted(n) => {
+        Ok(n) => {
             *size = n;
             0
         }
-        Answer::Refused(r) => {
+        Err(r) => {
             *size = r.needed;
             r.check
         }
     }
 }
 
-pub fn told_run(answer: RunAnswer, size: &mut u64) -> u8
+pub fn told_run(answer: Result<usize, NeedsBytes>, size: &mut u64) -> u8
     ensures { (result ≡ run_number answer) × (size.new ≡ run_length answer) }
 {
     match answer {
-        RunAnswer::Written(n) => {
+        Ok(n) => {
             *size = n as u64;
             0
         }
-        RunAnswer::Needs(n) => {
+        Err(NeedsBytes(n)) => {
             *size = n as u64;
             10
         }
     }
 }
 
-pub fn told_unified(answer: UnifyAnswer, size: &mut u64) -> u8
+pub fn told_unified(answer: Result<u64, UnifyError>, size: &mut u64) -> u8
     ensures { (result ≡ (stated answer).0) × (size.new ≡ (stated answer).1) }
 {
     match answer {
-        UnifyAnswer::Written(n) => {
+        Ok(n) => {
             *size = n;
             0
         }
-        UnifyAnswer::OutsideData => {
+        Err(UnifyError::OutsideData) => {
             *size = 0;
             9
         }
-        UnifyAnswer::NeedsBytes(n) => {
+        Err(UnifyError::NeedsBytes(n)) => {
             *size = n;
             10
         }
     }
 }
 
-pub fn told_verdict(verdict: Verdict) -> u8
-    ensures { result ≡ verdict_number verdict }
+pub fn told_check(answer: Result<(), Refusal>) -> u8
+    ensures { result ≡ check_number answer }
 {
-    match verdict {
-        Verdict::Sound => 0,
-        Verdict::Fails(check) => check,
+    match answer {
+        Ok(()) => 0,
+        Err(r) => r.check,
     }
 }

@@ -1,9 +1,9 @@
 -- The triangles of what `hall_list` wrote are those of the models read: what is read fits, since a field of four bytes is below 2^32, and since a section within
 -- the limit holds no more than a record can.
+use Rattle.std.specs.Prelude.{Option, None, Some}
 use mathlib.Core.Path.{◌≡◌, refl, sym, subst, ap, ◌∙◌}
 use mathlib.Core.Bool.{Bool, true, false, cond}
 use mathlib.Core.List.{List, [], ◌∷◌}
-use mathlib.Core.Option.{Option, none, some}
 use Prim.Native.Nat.{ℕ, ◌+◌, ◌*◌, ◌-◌, ◌/◌, ◌^◌, ◌≤◌, ◌<◌, min}
 use native.Mathlib.Omega.{arith}
 use borrow.Author.Tests.{leb-true}
@@ -28,8 +28,8 @@ use Rattle.halls.specs.Triangles.{held_by, triangles_of, triangles_of_all, trian
 use Rattle.halls.specs.Inner.Measure.{geometries_in}
 use Rattle.halls.specs.Inner.Taking.{content_in, held_in}
 use Rattle.halls.specs.Inner.View.{model_of}
-use Rattle.halls.specs.declared.answer.Answer.{Answer}
-use Rattle.halls.specs.declared.answer.Answer.TheVariants.{Accepted}
+use Rattle.std.specs.Prelude.{Result, Ok}
+use Rattle.halls.specs.declared.answer.Refusal.{Refusal}
 use Rattle.halls.proofs.edit.FittingLaws.{SmallGeometry, read_small}
 use Rattle.halls.proofs.edit.ReadEach.{each-model, model-each}
 use Rattle.halls.proofs.edit.ReadFew.{read-few}
@@ -39,17 +39,17 @@ use Rattle.halls.proofs.read.ReadBytes.{IfThere, there-map, there_or, there-cond
 use Rattle.halls.proofs.read.ReadingLaws.{read-injective, need-read}
 use Rattle.halls.proofs.read.SecondPass.{models-read}
 use Rattle.halls.proofs.read.ViewLaws.{Record-length, vertices_record-length, indices_record-length}
-use Rattle.halls.proofs.read.ViewRecords.{Small}
+use Rattle.halls.specs.Inner.Small.{Small}
 
 -- ---- records whose body is short
 
 Vertices-short : (o : Option Vertices) → content_in o < 2 ^ 31 → Short (optional vertices_record o)
-Vertices-short none h = omega arith
-Vertices-short (some v) h = omega (arith, vertices_record-length v)
+Vertices-short None h = omega arith
+Vertices-short (Some v) h = omega (arith, vertices_record-length v)
 
 Indices-short : (o : Option Indices) → held_in o < 2 ^ 29 → Short (optional indices_record o)
-Indices-short none h = omega arith
-Indices-short (some i) h = omega (arith, indices_record-length i)
+Indices-short None h = omega arith
+Indices-short (Some i) h = omega (arith, indices_record-length i)
 
 model-short : (m : Model) → length m.mapping < 2 ^ 16 → Short (model_record m)
 unfolding model_record
@@ -65,7 +65,7 @@ record ReadFits (ms : List Model) : Type 0 where
   few : geometries_in ms ≤ 16384
 
 module _ (s : Sections) (system : AllBytes s.system) (graphics : AllBytes s.graphics) where
-  Block-bytes : (pointer n : ℕ) (b : List ℕ) → resolved s pointer n ≡ some b → AllBytes b
+  Block-bytes : (pointer n : ℕ) (b : List ℕ) → resolved s pointer n ≡ Some b → AllBytes b
   Block-bytes pointer n b e = subst (IfThere AllBytes) e (resolved-below s system graphics pointer n)
 
   -- a mapping has no more entries than its model has geometry pointers
@@ -76,8 +76,8 @@ module _ (s : Sections) (system : AllBytes s.system) (graphics : AllBytes s.grap
       let none-few : Few [] = omega arith in
       let all-few : (raw : List ℕ) → AllBytes raw → Few (numbers 2 b.count raw) = λ raw f. rw (numbers-length 2 b.count raw) (omega arith) in
       there_or Few (list_at s 2 b.count b.mapping) []
-      (there-cond Few (eqb b.count 0) (some []) _ none-few
-      (there-cond Few (eqb b.mapping 0) (some []) _ none-few
+      (there-cond Few (eqb b.count 0) (Some []) _ none-few
+      (there-cond Few (eqb b.mapping 0) (Some []) _ none-few
       (there-map AllBytes Few (numbers 2 b.count) all-few (resolved s b.mapping _) (resolved-below s system graphics b.mapping _))))
       none-few
 
@@ -85,7 +85,7 @@ module _ (s : Sections) (system : AllBytes s.system) (graphics : AllBytes s.grap
     small : Small s
     small = let l = limit-each s within in record { system = l.0; graphics = l.1 }
 
-    GeometryFits_lem : (shader pointer : ℕ) (b : List ℕ) → resolved s pointer 0x98 ≡ some b → FittingGeometry (geometry_of s shader (geometry_block b))
+    GeometryFits_lem : (shader pointer : ℕ) (b : List ℕ) → resolved s pointer 0x98 ≡ Some b → FittingGeometry (geometry_of s shader (geometry_block b))
     unfolding geometry_of geometry_with geometry_block
     GeometryFits_lem shader pointer b e =
         let g : Geometry = geometry_of s shader (geometry_block b) in
@@ -96,7 +96,7 @@ module _ (s : Sections) (system : AllBytes s.system) (graphics : AllBytes s.grap
           indices = Indices-short g.indices few.held;
         }
 
-    ModelFits_lem : (pointer : ℕ) (b : List ℕ) → resolved s pointer 0x30 ≡ some b → FittingModel (model_of s (model_block b))
+    ModelFits_lem : (pointer : ℕ) (b : List ℕ) → resolved s pointer 0x30 ≡ Some b → FittingModel (model_of s (model_block b))
     unfolding model_of model_block
     ModelFits_lem pointer b e =
         let count_fits : (model_block b).count < 2 ^ 16 = field_bound 2 b 0x10 (Block-bytes pointer 0x30 b e) in
@@ -107,8 +107,8 @@ module _ (s : Sections) (system : AllBytes s.system) (graphics : AllBytes s.grap
 
     HeaderFits_lem : (o : Option (List ℕ)) (ms : List Model) → read_header s o ≡ read ms → ReadFits ms
     unfolding Each
-    HeaderFits_lem none ms e = subst ReadFits (read-injective e) (record { fitting = tt; few = omega arith })
-    HeaderFits_lem (some b) ms e =
+    HeaderFits_lem None ms e = subst ReadFits (read-injective e) (record { fitting = tt; few = omega arith })
+    HeaderFits_lem (Some b) ms e =
         let n = need-read 2 (list_at s 8 (header_length (header_of b)) (header_of b).pointer) (read_models s 0) ms e in
         subst ReadFits (models-read s n.found 0 ms n.onward)
         (record { fitting = each-model s FittingModel ModelFits_lem n.found; few = read-few s n.found ms n.onward })
@@ -134,8 +134,8 @@ geometry-triangles g fit =
     whichever false v w = omega arith
 
     held-few : (o : Option Indices) → Short (optional indices_record o) → held_by o ≤ 2 ^ 32
-    held-few none h = omega arith
-    held-few (some i) h = omega (arith, indices_record-length i)
+    held-few None h = omega arith
+    held-few (Some i) h = omega (arith, indices_record-length i)
 
 geometries-triangles : (gs : List Geometry) → Each FittingGeometry gs → triangles_of_all gs ≤ length gs * 2 ^ 32
 unfolding triangles_of_all Each
@@ -160,26 +160,26 @@ record Listed (s : Sections) (address room n : ℕ) : Type 0 where
 
 module _ (s : Sections) (address room n : ℕ) where
   by_room : (ms : List Model) (t : Bool) → within_limit s ≡ true → read_list s address ≡ read ms → leb (length (write ms)) room ≡ t
-      → Accepted n ≡ answer_of (cond t (written (write ms)) (refusal 7 (length (write ms)))) → Listed s address room n
+      → Ok n ≡ answer_of (cond t (written (write ms)) (refusal 7 (length (write ms)))) → Listed s address room n
   unfolding hall_list
   by_room ms true w e f a = record { within = w; models = ms; are = e; bytes = rw (w, e, f); long = cc; fits = leb-true (length (write ms)) room f }
   by_room ms false w e f a = let z : ◌≡◌ {A = ℕ} 0 1 = cc in absurd (omega arith)
 
-  by-reading : (t : Bool) (r : Reading (List Model)) → within_limit s ≡ t → read_list s address ≡ r → Accepted n ≡ answer_of (cond t (fitted room r) (refusal 1 0))
+  by-reading : (t : Bool) (r : Reading (List Model)) → within_limit s ≡ t → read_list s address ≡ r → Ok n ≡ answer_of (cond t (fitted room r) (refusal 1 0))
       → Listed s address room n
   by-reading false r w e a = let z : ◌≡◌ {A = ℕ} 0 1 = cc in absurd (omega arith)
   by-reading true (refused check) w e a = let z : ◌≡◌ {A = ℕ} 0 1 = cc in absurd (omega arith)
   by-reading true (read ms) w e a = by_room ms (leb (length (write ms)) room) w e refl a
 
-  accepted : Accepted n ≡ answer_of (hall_list s address room) → Listed s address room n
+  accepted : Ok n ≡ answer_of (hall_list s address room) → Listed s address room n
   unfolding hall_list
   accepted a = by-reading (within_limit s) (read_list s address) refl refl a
 
 -- Where `hall_list` accepts, the n bytes that it wrote over the front of the list buffer say as many triangles as the models read: c, which `triangle_count`
 -- answers of them, is the Rust's sum. Both are taken by their contracts.
-pub Listed-triangles : (s : Sections) → AllBytes s.system → AllBytes s.graphics → (address : ℕ) (list : List ℕ) (r : Answer) (list' : List ℕ)
+pub Listed-triangles : (s : Sections) → AllBytes s.system → AllBytes s.graphics → (address : ℕ) (list : List ℕ) (r : Result ℕ Refusal) (list' : List ℕ)
     → (r ≡ answer_of (hall_list s address (length list))) × (list' ≡ after (hall_list s address (length list)) list)
-    → (n : ℕ) → r ≡ Accepted n → (c : ℕ) → c ≡ min (triangles_in (records (take n list'))) (2 ^ 64 - 1) → CountsRead s address c
+    → (n : ℕ) → r ≡ Ok n → (c : ℕ) → c ≡ min (triangles_in (records (take n list'))) (2 ^ 64 - 1) → CountsRead s address c
 unfolding part
 Listed-triangles s system graphics address list r list' listed n e c counted =
     let w : Listed s address (length list) n = accepted s address (length list) n (sym e ∙ listed.0) in

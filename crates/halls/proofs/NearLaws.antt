@@ -1,8 +1,7 @@
 -- The places in a hall as the check's pass leads to them: what is sought from the place where it came nearest stands where they say.
+use Rattle.std.specs.Prelude.{None, unwrap_or, option_map}
 use mathlib.Core.Path.{◌≡◌, refl, sym, ap, ◌∙◌}
 use mathlib.Core.List.{List, [], ◌∷◌, ◌++◌, append-nil}
-use mathlib.Core.Option
-use mathlib.Core.Option.{Option, none}
 use Prim.Native.Nat.{ℕ, ◌+◌, ◌-◌, ◌≤◌, ◌<◌}
 use native.Mathlib.Omega.{arith}
 use lib.ListN.{length, take, drop, length-drop, take-append-drop, drop_of_length-le}
@@ -11,10 +10,9 @@ use Rattle.halls.specs.Inner.HallRecords.{hall_records}
 use Rattle.halls.specs.Parsing.{records_length}
 use Rattle.halls.specs.Records.{records}
 use Rattle.halls.specs.Inner.Seeking.{sought, Marked, Near}
-use Rattle.halls.specs.Places.{item, model_place, geometry_place, found_model, found_geometry}
-use Rattle.halls.specs.declared.check.find.FoundModel.TheVariants.{At as ModelAt, Absent as NoModel}
+use Rattle.halls.specs.Places.{item, model_place, geometry_place}
+use Rattle.std.specs.Prelude.{Some}
 use Rattle.halls.specs.declared.check.pass.Mark.{Mark}
-use Rattle.halls.specs.declared.check.find.FoundGeometry.TheVariants.{Absent as NoGeometry}
 use Rattle.halls.proofs.format.RecordBytes.{hall-length}
 use Rattle.halls.proofs.PlaceLaws.{ModelHere, GeometryOf, sought-model, sought-there, start, behind-model, no-geometry, GeometryHere_lem}
 
@@ -25,7 +23,7 @@ module _ (s : List ℕ) (h : Hall) (same : hall_records h ≡ records s) (m : �
   model-begins : length (hall_bytes h) ≡ length s → sought s 0 1 m ≡ length (hall_bytes (take m h))
   model-begins long = sought-model s h same m ∙ by (drop m h) refl
     where
-      by : (l : Hall) → drop m h ≡ l → Option.get_or (Option.map (λ (x : FullModel). 0 + records_length (hall_records (take m h))) (item m h)) (length s) ≡ length (hall_bytes (take m h))
+      by : (l : Hall) → drop m h ≡ l → unwrap_or (option_map (λ (x : FullModel). 0 + records_length (hall_records (take m h))) (item m h)) (length s) ≡ length (hall_bytes (take m h))
       by [] q = let all : take m h ≡ h = sym (append-nil (take m h)) ∙ ap (λ (l : Hall). take m h ++ l) (sym q) ∙ take-append-drop m h in rw (q, all) (sym long)
       by (x ∷ xs) q = rw q (omega (arith, hall-length (take m h)))
 
@@ -43,14 +41,14 @@ module _ (s : List ℕ) (h : Hall) (same : hall_records h ≡ records s) (m : �
 -- ---- the answers, where a pass came nearest
 
 module _ (s : List ℕ) (h : Hall) (same : hall_records h ≡ records s) {m g : ℕ} {p : Mark} (near : Near s m g (length h) p) where
-  no_such : p.models ≤ m → item m h ≡ none
+  no_such : p.models ≤ m → item m h ≡ None
   no_such few = let all-before : length h ≤ m = omega (arith, near.models_are) in rw (drop_of_length-le h {i = m} all-before)
 
-  pub model-absent : p.models ≤ m → NoModel ≡ found_model (model_place h m)
+  pub model-absent : p.models ≤ m → None ≡ (model_place h m)
   unfolding model_place
   model-absent few = rw (no_such few)
 
-  pub without-model : p.models ≤ m → NoGeometry ≡ found_geometry (geometry_place h m g)
+  pub without-model : p.models ≤ m → None ≡ (geometry_place h m g)
   unfolding geometry_place
   without-model few = rw (no_such few)
 
@@ -63,13 +61,13 @@ module _ (s : List ℕ) (h : Hall) (same : hall_records h ≡ records s) {m g : 
       let e : p.models + 0 ≡ m + 1 = omega (arith, near.models_are) in
       sym (near.marked.models-behind 0) ∙ ap (λ (n : ℕ). sought s 0 1 n) e ∙ model-begins s h same (m + 1) long
 
-pub model-is_found : {s : List ℕ} {h : Hall} {m at : ℕ} → ModelHere s h m at → ModelAt at ≡ found_model (model_place h m)
+pub model-is_found : {s : List ℕ} {h : Hall} {m at : ℕ} → ModelHere s h m at → Some at ≡ (model_place h m)
 unfolding model_place
 model-is_found w = rw (w.is, ← w.place)
 
 -- the last model, of as many as a pass was to go to
 pub last_found : (s : List ℕ) (h : Hall) → hall_records h ≡ records s → {m g count : ℕ} {p : Mark} → Near s m g (length h) p → count ≡ length h → (count ≡ 0 → ⊥) → count ≤ m + 1
-    → found_model (model_place h (count - 1)) ≡ ModelAt p.model
+    → (model_place h (count - 1)) ≡ Some p.model
 last_found s h same near counted some-such few =
     sym (model-is_found (model-marked s h same _ near.marked (omega (arith, near.models_are, some-such)) (omega (arith, some-such))))
 
@@ -80,7 +78,7 @@ module _ {s : List ℕ} {h : Hall} {m g : ℕ} {p : Mark} (near : Near s m g (le
         let all : p.own + skip ≡ g = omega (arith, near.own-few) in
         f ∙ sym (near.marked.geometries-behind (omega arith) skip) ∙ rw (all, behind-model w refl)
 
-    pub geometry-absent : place ≡ length s → NoGeometry ≡ found_geometry (geometry_place h m g)
+    pub geometry-absent : place ≡ length s → None ≡ (geometry_place h m g)
     unfolding geometry_place
     geometry-absent z = rw (w.is, no-geometry s (start w) w.it.geometries w.others w.behind g from_start z)
 

@@ -1,8 +1,7 @@
 -- The places in a hall: what is sought in its list stands where they say.
+use Rattle.std.specs.Prelude.{Option, None, Some, unwrap_or, option_map}
 use mathlib.Core.Path.{◌≡◌, refl, sym, ap, ◌∙◌}
 use mathlib.Core.List.{List, [], ◌∷◌, ◌++◌, map, append_assoc}
-use mathlib.Core.Option
-use mathlib.Core.Option.{Option, none, some}
 use Prim.Native.Nat.{ℕ, zero, suc, ◌+◌, ◌*◌, ◌-◌, ◌≤◌, ◌<◌}
 use native.Mathlib.Numerals.{add-one}
 use native.Mathlib.Omega.{arith}
@@ -17,9 +16,7 @@ use Rattle.halls.specs.Inner.HallRecords.{of_kind, geometries_records, hall_reco
 use Rattle.halls.specs.Parsing.{records_length}
 use Rattle.halls.specs.Records.{Record, records}
 use Rattle.halls.specs.Inner.Seeking.{place_of, sought, model_end}
-use Rattle.halls.specs.Places.{item, model_place, geometry_place, found_model, found_geometry}
-use Rattle.halls.specs.declared.check.find.FoundModel.TheVariants.{At as ModelAt, Absent as NoModel}
-use Rattle.halls.specs.declared.check.find.FoundGeometry.TheVariants.{At as GeometryAt, Absent as NoGeometry}
+use Rattle.halls.specs.Places.{item, model_place, geometry_place}
 use Rattle.halls.proofs.format.BodyLaws.{model_body-length, geometry_body-length, vertices_body-length}
 use Rattle.halls.proofs.format.RecordBytes.{hall-length}
 use Rattle.halls.proofs.check.SeekLaws.{place-next, Stand, Stand-front, Stand-behind}
@@ -68,10 +65,10 @@ past-geometries (g ∷ gs) rs m at =
 one_fewer : (m : ℕ) → suc m - 1 ≡ m
 one_fewer m = omega arith
 
-place-model : (h : Hall) (m at : ℕ) → place_of 1 m at (hall_records h) ≡ Option.map (λ (x : FullModel). at + records_length (hall_records (take m h))) (item m h)
+place-model : (h : Hall) (m at : ℕ) → place_of 1 m at (hall_records h) ≡ option_map (λ (x : FullModel). at + records_length (hall_records (take m h))) (item m h)
 unfolding place_of hall_records records_length
 place-model [] m at = rw (drop-nil m)
-place-model (x ∷ h) zero at = ap some (omega arith)
+place-model (x ∷ h) zero at = ap Some (omega arith)
 place-model (x ∷ h) (suc m) at =
     let n : ℕ = length (model_body (listed_model x)) in
     let gs : List Record = geometries_records x.geometries in
@@ -80,20 +77,20 @@ place-model (x ∷ h) (suc m) at =
     place-next 1 (suc m) at (of_kind 1 (model_body (listed_model x))) (gs ++ hall_records h) refl (λ z. omega arith)
     ∙ ap (λ (k : ℕ). place_of 1 k (at + 6 + n) (gs ++ hall_records h)) (one_fewer m)
     ∙ past-geometries x.geometries (hall_records h) m (at + 6 + n) ∙ place-model h m (at + 6 + n + records_length gs)
-    ∙ ap (λ (k : ℕ). Option.map (λ (x : FullModel). k) (item m h)) e
+    ∙ ap (λ (k : ℕ). option_map (λ (x : FullModel). k) (item m h)) e
 
 -- the next model stands at the front of the records that are left; where there are none, the bytes end there
-next-model : (h : Hall) (at n : ℕ) → n ≡ at + records_length (hall_records h) → Option.get_or (place_of 1 0 at (hall_records h)) n ≡ at
+next-model : (h : Hall) (at n : ℕ) → n ≡ at + records_length (hall_records h) → unwrap_or (place_of 1 0 at (hall_records h)) n ≡ at
 unfolding place_of hall_records records_length
 next-model [] at n e = e ∙ omega arith
 next-model (x ∷ h) at n e = refl
 
 place-geometry : (gs : List FullGeometry) (ms : Hall) (g at : ℕ)
-    → place_of 2 g at (geometries_records gs ++ hall_records ms) ≡ Option.map (λ (x : FullGeometry). at + records_length (geometries_records (take g gs))) (item g gs)
+    → place_of 2 g at (geometries_records gs ++ hall_records ms) ≡ option_map (λ (x : FullGeometry). at + records_length (geometries_records (take g gs))) (item g gs)
 unfolding place_of geometries_records hall_records records_length
 place-geometry [] [] g at = rw (drop-nil g)
 place-geometry [] (m ∷ ms) g at = rw (drop-nil g)
-place-geometry (x ∷ gs) ms zero at = ap some (omega arith)
+place-geometry (x ∷ gs) ms zero at = ap Some (omega arith)
 place-geometry (x ∷ gs) ms (suc g) at =
     let a : ℕ = length (geometry_body (listed_geometry x)) in
     let b : ℕ = length (declaration_bytes x.declaration) in
@@ -105,7 +102,7 @@ place-geometry (x ∷ gs) ms (suc g) at =
     place-next 2 (suc g) at (of_kind 2 (geometry_body (listed_geometry x)))
     (of_kind 3 (declaration_bytes x.declaration) ∷ of_kind 4 (vertices_body x.vertices) ∷ of_kind 5 (indices_body x.indices) ∷ others) refl (λ z. omega arith)
     ∙ ap (λ (k : ℕ). place_of 2 k (at + 6 + a + 6 + b + 6 + c + 6 + d) others) (one_fewer g)
-    ∙ place-geometry gs ms g (at + 6 + a + 6 + b + 6 + c + 6 + d) ∙ ap (λ (k : ℕ). Option.map (λ (x : FullGeometry). k) (item g gs)) e
+    ∙ place-geometry gs ms g (at + 6 + a + 6 + b + 6 + c + 6 + d) ∙ ap (λ (k : ℕ). option_map (λ (x : FullGeometry). k) (item g gs)) e
 
 -- ---- a model that is found, or none
 
@@ -119,9 +116,9 @@ pub record ModelHere (s : List ℕ) (h : Hall) (m at : ℕ) : Type 0 where
   pub behind : Stand s (at + (12 + 2 * length it.mapping)) (geometries_records it.geometries ++ hall_records others)
 
 module _ (s : List ℕ) (h : Hall) (same : hall_records h ≡ records s) (m : ℕ) where
-  pub sought-model : sought s 0 1 m ≡ Option.get_or (Option.map (λ (x : FullModel). 0 + records_length (hall_records (take m h))) (item m h)) (length s)
+  pub sought-model : sought s 0 1 m ≡ unwrap_or (option_map (λ (x : FullModel). 0 + records_length (hall_records (take m h))) (item m h)) (length s)
   unfolding sought
-  sought-model = ap (λ (rs : List Record). Option.get_or (place_of 1 m 0 rs) (length s)) (sym same) ∙ ap (λ (o : Option ℕ). Option.get_or o (length s)) (place-model h m 0)
+  sought-model = ap (λ (rs : List Record). unwrap_or (place_of 1 m 0 rs) (length s)) (sym same) ∙ ap (λ (o : Option ℕ). unwrap_or o (length s)) (place-model h m 0)
 
   -- behind the bytes of the models before it
   there : {at : ℕ} (x : FullModel) (xs : Hall) → drop m h ≡ x ∷ xs → at ≡ length (hall_bytes (take m h)) → ModelHere s h m at
@@ -137,11 +134,11 @@ module _ (s : List ℕ) (h : Hall) (same : hall_records h ≡ records s) (m : �
       let n : at + (12 + 2 * length x.mapping) ≡ at + 6 + length body = omega (arith, l) in
       record { it = x; others = xs; is = e; place = f; length-is = front.length-is ∙ l; behind = rw n front.behind }
 
-  pub model-stands : {at : ℕ} (x : FullModel) → item m h ≡ some x → at ≡ length (hall_bytes (take m h)) → ModelHere s h m at
+  pub model-stands : {at : ℕ} (x : FullModel) → item m h ≡ Some x → at ≡ length (hall_bytes (take m h)) → ModelHere s h m at
   model-stands {at} x i f = by (drop m h) refl
     where
       by : (l : Hall) → drop m h ≡ l → ModelHere s h m at
-      by [] q = let clash : none ≡ some x = rw q at i in let z : ◌≡◌ {A = ℕ} 0 1 = cc in absurd (omega arith)
+      by [] q = let clash : None ≡ Some x = rw q at i in let z : ◌≡◌ {A = ℕ} 0 1 = cc in absurd (omega arith)
       by (y ∷ ys) q = there y ys q f
 
   -- where it is sought
@@ -150,10 +147,10 @@ module _ (s : List ℕ) (h : Hall) (same : hall_records h ≡ records s) (m : �
       let place : at ≡ 0 + records_length (hall_records (take m h)) = f ∙ sought-model ∙ rw e in
       there x xs e (omega (arith, place, hall-length (take m h)))
 
-  pub no-model : {at : ℕ} → at ≡ sought s 0 1 m → at ≡ length s → item m h ≡ none
+  pub no-model : {at : ℕ} → at ≡ sought s 0 1 m → at ≡ length s → item m h ≡ None
   no-model {at} e z = by (drop m h) refl
     where
-      by : (l : Hall) → drop m h ≡ l → item m h ≡ none
+      by : (l : Hall) → drop m h ≡ l → item m h ≡ None
       by [] q = rw q
       by (x ∷ xs) q = let w = sought-there x xs q e in absurd (omega (arith, z, w.behind.low))
 
@@ -215,15 +212,15 @@ module _ {s : List ℕ} {h : Hall} {m at : ℕ} (w : ModelHere s h m at) where
 -- the place of the g-th of some geometries whose records begin at `start`
 pub record GeometryHere (s : List ℕ) (start : ℕ) (gs : List FullGeometry) (g at : ℕ) : Type 0 where
   pub it : FullGeometry
-  pub found : item g gs ≡ some it
+  pub found : item g gs ≡ Some it
   pub place : at ≡ start + length (write_geometries (map listed_geometry (take g gs)))
   pub length-is : field 4 s (at + 42) ≡ 7 + length it.vertices.content
   pub low : at + 55 + length it.vertices.content ≤ length s
 
 module _ (s : List ℕ) (start : ℕ) (gs : List FullGeometry) (ms : Hall) (w : Stand s start (geometries_records gs ++ hall_records ms)) (g : ℕ) where
-  sought-geometry : sought s start 2 g ≡ Option.get_or (Option.map (λ (x : FullGeometry). start + records_length (geometries_records (take g gs))) (item g gs)) (length s)
+  sought-geometry : sought s start 2 g ≡ unwrap_or (option_map (λ (x : FullGeometry). start + records_length (geometries_records (take g gs))) (item g gs)) (length s)
   unfolding sought
-  sought-geometry = ap (λ (rs : List Record). Option.get_or (place_of 2 g start rs) (length s)) w.are ∙ ap (λ (o : Option ℕ). Option.get_or o (length s)) (place-geometry gs ms g start)
+  sought-geometry = ap (λ (rs : List Record). unwrap_or (place_of 2 g start rs) (length s)) w.are ∙ ap (λ (o : Option ℕ). unwrap_or o (length s)) (place-geometry gs ms g start)
 
   stands : {at : ℕ} (x : FullGeometry) (xs : List FullGeometry) → drop g gs ≡ x ∷ xs → at ≡ sought s start 2 g → GeometryHere s start gs g at
   unfolding geometries_records
@@ -253,10 +250,10 @@ module _ (s : List ℕ) (start : ℕ) (gs : List FullGeometry) (ms : Hall) (w : 
         low = omega (arith, l, m, n, front.behind.low);
       }
 
-  pub no-geometry : {at : ℕ} → at ≡ sought s start 2 g → at ≡ length s → item g gs ≡ none
+  pub no-geometry : {at : ℕ} → at ≡ sought s start 2 g → at ≡ length s → item g gs ≡ None
   no-geometry {at} e z = by (drop g gs) refl
     where
-      by : (l : List FullGeometry) → drop g gs ≡ l → item g gs ≡ none
+      by : (l : List FullGeometry) → drop g gs ≡ l → item g gs ≡ None
       by [] q = rw q
       by (x ∷ xs) q = let f = stands x xs q e in absurd (omega (arith, z, f.low))
 
@@ -270,15 +267,15 @@ module _ (s : List ℕ) (start : ℕ) (gs : List FullGeometry) (ms : Hall) (w : 
 -- ---- the answers
 
 module _ (s : List ℕ) (h : Hall) (same : hall_records h ≡ records s) (m : ℕ) {at : ℕ} (e : at ≡ sought s 0 1 m) where
-  pub model-absent : at ≡ length s → NoModel ≡ found_model (model_place h m)
+  pub model-absent : at ≡ length s → None ≡ (model_place h m)
   unfolding model_place
   model-absent z = rw (no-model s h same m e z)
 
-  pub model_found_lem : (at ≡ length s → ⊥) → ModelAt at ≡ found_model (model_place h m)
+  pub model_found_lem : (at ≡ length s → ⊥) → Some at ≡ (model_place h m)
   unfolding model_place
   model_found_lem z = let w = ModelHere_lem s h same m e z in rw (w.is, ← w.place)
 
-  pub without-model : (g : ℕ) → at ≡ length s → NoGeometry ≡ found_geometry (geometry_place h m g)
+  pub without-model : (g : ℕ) → at ≡ length s → None ≡ (geometry_place h m g)
   unfolding geometry_place
   without-model g z = rw (no-model s h same m e z)
 
@@ -290,7 +287,7 @@ module _ {s : List ℕ} {h : Hall} {m at : ℕ} (w : ModelHere s h m at) (g : �
     from_start : place ≡ sought s (start w) 2 g
     from_start = f ∙ ap (λ (k : ℕ). sought s k 2 g) (behind-model w e)
 
-    pub geometry-absent : place ≡ length s → NoGeometry ≡ found_geometry (geometry_place h m g)
+    pub geometry-absent : place ≡ length s → None ≡ (geometry_place h m g)
     unfolding geometry_place
     geometry-absent z = rw (w.is, no-geometry s (start w) w.it.geometries w.others w.behind g from_start z)
 
@@ -298,7 +295,7 @@ module _ {s : List ℕ} {h : Hall} {m at : ℕ} (w : ModelHere s h m at) (g : �
     geometry-stands z = GeometryHere_lem s (start w) w.it.geometries w.others w.behind g from_start z
 
   pub geometry_found_lem : {place n : ℕ} → GeometryOf place → n ≡ field 4 s (place + 42)
-      → GeometryAt (record { model = at; geometry = place; declaration = place + 20; vertices = place + 42; indices = place + 42 + 6 + n }) ≡ found_geometry (geometry_place h m g)
+      → Some (record { model = at; geometry = place; declaration = place + 20; vertices = place + 42; indices = place + 42 + 6 + n }) ≡ (geometry_place h m g)
   unfolding geometry_place
   geometry_found_lem {place} {n} x e =
       let i : place + 42 + 6 + n ≡ place + 55 + length x.it.vertices.content = omega (arith, e, x.length-is) in

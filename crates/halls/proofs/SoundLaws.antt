@@ -1,8 +1,8 @@
 -- What the checks of a hall say of one that is sound: the checks one by one, and as facts of its numbers.
+use Rattle.std.specs.Prelude.{Option, None, Some}
 use mathlib.Core.Path.{◌≡◌, refl, sym, subst}
 use mathlib.Core.Bool.{Bool, true, false}
 use mathlib.Core.List.{List, [], ◌∷◌}
-use mathlib.Core.Option.{Option, none, some}
 use Prim.Native.Nat.{ℕ, ◌*◌, ◌≤◌, ◌<◌}
 use native.Mathlib.Omega.{arith}
 use borrow.Author.Tests.{eqb-true, leb-true, ltb-true}
@@ -16,8 +16,8 @@ use Rattle.vertices.specs.declared.types.VertexComponent.{VertexComponent}
 use Rattle.halls.specs.Every.{every, Each}
 use Rattle.halls.specs.Hall.{FullGeometry, FullModel, Hall}
 use Rattle.halls.specs.Checks.{vertex_bytes_exact, same_numbers, shader_ids, mapping_matches, counts_within_limits, strides_agree, has_size, components_inside, vertex_counts_agree, held, index_counts_agree, indices_in_range, triangles_of, has_three_vertices, triangles_distinct, image_within_limit, require, every_geometry, verdict}
-use Rattle.halls.specs.declared.check.check.Verdict.{Verdict}
-use Rattle.halls.specs.declared.check.check.Verdict.TheVariants.{Sound}
+use Rattle.halls.specs.Verdict.{Verdict}
+use Rattle.halls.specs.Verdict.{Sound}
 
 -- ---- the verdict, check by check
 
@@ -90,8 +90,8 @@ pub record SoundGeometry (g : FullGeometry) : Type 0 where
 
 -- a position with a size is within the components' total
 sized : (d : VertexDeclaration) (o : Option VertexComponent) → component_of d 0 ≡ o → has_size o ≡ true → 0 < total_size d
-sized d none e h = absurd (subst T (sym h) tt)
-sized d (some c) e h = let p : 0 < c.size = ltb-true 0 c.size h in omega (arith, found_within d 0 c e)
+sized d None e h = absurd (subst T (sym h) tt)
+sized d (Some c) e h = let p : 0 < c.size = ltb-true 0 c.size h in omega (arith, found_within d 0 c e)
 
 pub SoundGeometry_lem : (g : FullGeometry) → vertex_bytes_exact g ≡ true → strides_agree g ≡ true → components_inside g ≡ true → vertex_counts_agree g ≡ true → index_counts_agree g ≡ true
     → indices_in_range g ≡ true → triangles_distinct g ≡ true → SoundGeometry g

@@ -1,7 +1,7 @@
 -- The abstract state of a hall: a sound hall is its state written out, and bytes are sound exactly where they are a state written out, and then of one state.
+use Rattle.std.specs.Prelude.{Option, None, Some}
 use mathlib.Core.Path.{◌≡◌, refl, sym, ap, ◌∙◌, subst}
 use mathlib.Core.List.{List, [], ◌∷◌, ◌++◌, map}
-use mathlib.Core.Option.{Option, none, some}
 use Prim.Native.Nat.{ℕ, ◌+◌, ◌*◌, ◌/◌, ◌^◌, ◌≤◌, ◌<◌}
 use native.Mathlib.Nat.{mul-div_cancel}
 use native.Mathlib.Omega.{arith}
@@ -19,7 +19,7 @@ use Rattle.halls.specs.Parsing.{records_length, models_in, parse}
 use Rattle.halls.specs.Records.{Record, records}
 use Rattle.halls.specs.Checks.{image_within_limit, judged, verdict, hall_verdict}
 use Rattle.halls.specs.State.{Geometry, State, full_geometry, full_model, hall_of, state_bytes, geometry_length, state_length, geometry_state, model_state, state_of, GeometryInWidth, StateInWidth, IsState}
-use Rattle.halls.specs.declared.check.check.Verdict.TheVariants.{Sound}
+use Rattle.halls.specs.Verdict.{Sound}
 use Rattle.halls.proofs.format.BodyLaws.{AllBytes, drop-below, model_body-length, geometry_body-length, vertices_body-length, Vertices-read-back, indices_body-length}
 use Rattle.halls.proofs.EveryLaws.{below_each}
 use Rattle.halls.proofs.format.ParsingLaws.{ReadHall, hall-parsed, parse-written}
@@ -188,15 +188,15 @@ read-state s f h r e =
 -- what a verdict of "sound" says of the first n bytes
 pub record SoundBytes (b : List ℕ) (n : ℕ) : Type 0 where
   pub within : n ≤ length b
-  pub parsed : parse (take n b) ≡ some (models_in (records (take n b)))
+  pub parsed : parse (take n b) ≡ Some (models_in (records (take n b)))
   pub read : ReadHall (take n b) (models_in (records (take n b)))
   pub sound : verdict (models_in (records (take n b))) ≡ Sound
 
 judged-bytes : (b : List ℕ) (n : ℕ) → AllBytes b → n ≤ length b → (o : Option Hall) → parse (take n b) ≡ o → judged o ≡ Sound → SoundBytes b n
-judged-bytes b n f h none e v = let z : ◌≡◌ {A = ℕ} 0 1 = cc in absurd (omega arith)
-judged-bytes b n f h (some x) e v =
+judged-bytes b n f h None e v = let z : ◌≡◌ {A = ℕ} 0 1 = cc in absurd (omega arith)
+judged-bytes b n f h (Some x) e v =
     let r : ReadHall (take n b) x = hall-parsed (take n b) (take_below n b f) x e in
-    record { within = h; parsed = e ∙ ap some r.is; read = subst (ReadHall (take n b)) r.is r; sound = ap verdict (sym r.is) ∙ v }
+    record { within = h; parsed = e ∙ ap Some r.is; read = subst (ReadHall (take n b)) r.is r; sound = ap verdict (sym r.is) ∙ v }
 
 pub SoundBytes_lem : (b : List ℕ) (n : ℕ) → AllBytes b → hall_verdict b n ≡ Sound → SoundBytes b n
 unfolding hall_verdict
@@ -211,7 +211,7 @@ sound_state b n f e =
 
 -- ---- a state's bytes are sound, and of that state alone
 
-State-parsed : (s : List ℕ) (st : State) → IsState s st → parse s ≡ some (hall_of st)
+State-parsed : (s : List ℕ) (st : State) → IsState s st → parse s ≡ Some (hall_of st)
 unfolding state_bytes
 State-parsed s st w =
     ap parse (sym w.bytes) ∙ parse-written (hall_of st) (sound-InWidth st w.in_width w.sound) (verdict-sound (hall_of st) w.sound).vertex-bytes
@@ -222,6 +222,6 @@ State-sound b n st h w = rw (le-leb n (length b) h, State-parsed (take n b) st w
 
 pub State-unique : (s : List ℕ) (st st' : State) → IsState s st → IsState s st' → st ≡ st'
 State-unique s st st' w w' =
-    let e : some (hall_of st) ≡ some (hall_of st') = sym (State-parsed s st w) ∙ State-parsed s st' w' in
+    let e : Some (hall_of st) ≡ Some (hall_of st') = sym (State-parsed s st w) ∙ State-parsed s st' w' in
     let same : hall_of st ≡ hall_of st' = cc in
     sym (state_of-hall st) ∙ ap state_of same ∙ state_of-hall st'

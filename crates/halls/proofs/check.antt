@@ -10,5 +10,6 @@ pub mod MarkLaws
 pub mod WordLaws
 pub mod FoundLaws
 pub mod SpotLaws
+pub mod ToldLaws
 pub mod CutLaws
 pub mod HallSizeLaws

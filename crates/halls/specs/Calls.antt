@@ -1,7 +1,6 @@
 -- The seven hall calls (document 01, "Hall book"), and the hall that each proposes, with the counts and strides given or read.
+use Rattle.std.specs.Prelude.{Option, None, Some, unwrap_or, option_map}
 use Rattle.std.specs.Prelude.{Bool, true, false, List, [], ◌∷◌, ◌++◌, map, ℕ, suc, ◌+◌, ◌*◌, ◌-◌, ◌/◌, ltb, length, take, drop}
-use Rattle.std.proofs.Math.Option
-use Rattle.std.proofs.Math.Option.{Option, none, some, get_or}
 use Rattle.sections.specs.Address.{Sections, within_limit}
 use Rattle.sections.specs.Edit.{overwrite}
 use Rattle.vertices.specs.Declaration.{component_of, position_only}
@@ -97,32 +96,32 @@ attribute_set vertex semantic g value =
 
 -- check 11: vertices and indices there
 abbrev pub taken_geometry : list.Geometry → Option Vertices → Option Indices → Option FullGeometry
-taken_geometry g none i = none
-taken_geometry g (some v) none = none
-taken_geometry g (some v) (some i) = some (record {
+taken_geometry g None i = None
+taken_geometry g (Some v) None = None
+taken_geometry g (Some v) (Some i) = Some (record {
   shader = g.shader;
   index_count = g.index_count;
   triangle_count = g.triangle_count;
   vertex_count = g.vertex_count;
   stride = g.stride;
-  declaration = get_or g.declaration (position_only v.stride);
+  declaration = unwrap_or g.declaration (position_only v.stride);
   vertices = record { layout = 0; stride = v.stride; count = v.count; content = v.content };
   indices = i;
 })
 
 -- all of them, or none where one is lacking
 abbrev pub both : {A B C : Type 0} → (A → B → C) → Option A → Option B → Option C
-both f none y = none
-both f (some x) none = none
-both f (some x) (some y) = some (f x y)
+both f None y = None
+both f (Some x) None = None
+both f (Some x) (Some y) = Some (f x y)
 
 unfoldable pub all_of : {A B : Type 0} → (A → Option B) → List A → Option (List B)
-all_of f [] = some []
+all_of f [] = Some []
 all_of f (x ∷ xs) = both (λ y ys. y ∷ ys) (f x) (all_of f xs)
 
 abbrev pub taken_model : list.Model → Option FullModel
 taken_model m =
-    Option.map (λ gs. record { binding = m.binding; mask = m.mask; mapping = map (λ (g : FullGeometry). g.shader) gs; geometries = gs })
+    option_map (λ gs. record { binding = m.binding; mask = m.mask; mapping = map (λ (g : FullGeometry). g.shader) gs; geometries = gs })
     (all_of (λ (g : list.Geometry). taken_geometry g g.vertices g.indices) m.geometries)
 
 -- checks 1 to 6, then 11

@@ -1,14 +1,14 @@
 -- Checks 11 to 19 (document 01, "Questions at the door") and 27 (document 02, N7), the checks of a hall: what each asks of a hall's list, and the verdict.
+use Rattle.std.specs.Prelude.{Option, None, Some}
 use Rattle.std.specs.Prelude.{Bool, true, false, ◌&&◌, not, List, [], ◌∷◌, map, ℕ, ◌*◌, eqb, leb, ltb, length, take}
-use Rattle.std.proofs.Math.Option.{Option, none, some}
 use Rattle.vertices.specs.Declaration.{component_of, total_size}
 use Rattle.vertices.specs.declared.types.VertexComponent.{VertexComponent}
 use Rattle.halls.specs.Every.{every, sum_of}
 use Rattle.halls.specs.Hall.{FullGeometry, FullModel, Hall}
 use Rattle.halls.specs.ImageSize.{image_size}
 use Rattle.halls.specs.Parsing.{parse}
-use Rattle.halls.specs.declared.check.check.Verdict.{Verdict}
-use Rattle.halls.specs.declared.check.check.Verdict.TheVariants.{Sound, Fails}
+use Rattle.halls.specs.Verdict.{Verdict}
+use Rattle.halls.specs.Verdict.{Sound, Fails}
 use Rattle.halls.specs.declared.check.triangle.Triangle.{Triangle}
 
 -- 11. Given vertex bytes = count × stride? (In a list that parses they are.)
@@ -41,8 +41,8 @@ strides_agree g = eqb g.vertices.layout 0 && (eqb g.declaration.stride g.stride 
 
 -- 15. Position declared with nonzero size, components inside the stride?
 abbrev pub has_size : Option VertexComponent → Bool
-has_size none = false
-has_size (some c) = ltb 0 c.size
+has_size None = false
+has_size (Some c) = ltb 0 c.size
 
 unfoldable pub components_inside : FullGeometry → Bool
 components_inside g = has_size (component_of g.declaration 0) && leb (total_size g.declaration) g.stride
@@ -103,8 +103,8 @@ verdict h =
     Sound)))))))))
 
 abbrev pub judged : Option Hall → Verdict
-judged none = Fails 11
-judged (some h) = verdict h
+judged None = Fails 11
+judged (Some h) = verdict h
 
 -- of the first n bytes of a buffer
 unfoldable pub hall_verdict : List ℕ → ℕ → Verdict

@@ -1,6 +1,6 @@
 -- A hall's list: each geometry has kinds 2 to 5 (document 01, "Halls"). Every number that a record stores is kept, so that counts can disagree; the checks of a hall (`Checks`) judge it.
+use Rattle.std.specs.Prelude.{Some}
 use Rattle.std.specs.Prelude.{List, map, ℕ, ◌+◌, ◌*◌, ◌^◌, ◌<◌, length}
-use Rattle.std.proofs.Math.Option.{some}
 use Rattle.vertices.specs.Declaration.{InWidth}
 use Rattle.vertices.specs.declared.declaration.VertexDeclaration.{VertexDeclaration}
 use Rattle.halls.specs.Every.{Each}
@@ -36,9 +36,9 @@ listed_geometry g = record {
   triangle_count = g.triangle_count;
   vertex_count = g.vertex_count;
   stride = g.stride;
-  declaration = some g.declaration;
-  vertices = some g.vertices;
-  indices = some g.indices;
+  declaration = Some g.declaration;
+  vertices = Some g.vertices;
+  indices = Some g.indices;
 }
 
 abbrev pub listed_model : FullModel → Model

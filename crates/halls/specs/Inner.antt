@@ -1,4 +1,5 @@
 -- What private functions' contracts cite; no reader of the public ones needs it.
+pub mod Small
 pub mod View
 pub mod Measure
 pub mod HallRecords
@@ -9,3 +10,5 @@ pub mod Walk
 pub mod Seeking
 pub mod NewIndices
 pub mod Taking
+pub mod Spans
+pub mod Kinds

@@ -10,6 +10,7 @@ pub mod Hall
 pub mod Parsing
 pub mod Fronts
 pub mod ImageSize
+pub mod Verdict
 pub mod Checks
 pub mod HallSize
 pub mod State

@@ -1,6 +1,6 @@
 -- The hall list as read, and its bytes (document 01, "The list": records of body length u32, kind u16, body).
+use Rattle.std.specs.Prelude.{Option, None, Some}
 use Rattle.std.specs.Prelude.{List, [], ◌∷◌, ◌++◌, ℕ, length}
-use Rattle.std.proofs.Math.Option.{Option, none, some}
 use Rattle.sections.specs.Le.{bytes}
 use Rattle.vertices.specs.Declaration.{declaration_bytes}
 use Rattle.vertices.specs.Runs.{run}
@@ -45,8 +45,8 @@ record_bytes kind body = bytes 4 (length body) ++ (bytes 2 kind ++ body)
 
 -- a record that may be absent
 abbrev pub optional : {A : Type 0} → (A → List ℕ) → Option A → List ℕ
-optional f none = []
-optional f (some x) = f x
+optional f None = []
+optional f (Some x) = f x
 
 -- the bytes of some items, one behind the other
 unfoldable pub each : {A : Type 0} → (A → List ℕ) → List A → List ℕ

@@ -1,6 +1,6 @@
 -- Check 11, as parsing: records whole, ordered, exact in length, each geometry with kinds 2 to 5.
+use Rattle.std.specs.Prelude.{Option, None, Some}
 use Rattle.std.specs.Prelude.{Bool, cond, ◌&&◌, ◌||◌, List, [], ◌∷◌, ℕ, zero, suc, ◌+◌, ◌*◌, ◌-◌, ◌/◌, eqb, length, drop}
-use Rattle.std.proofs.Math.Option.{Option, none, some}
 use Rattle.sections.specs.Le.{field}
 use Rattle.vertices.specs.Declaration.{declaration_at}
 use Rattle.vertices.specs.Runs.{numbers}
@@ -97,4 +97,4 @@ structured s = whole s && (ordered 0 (records s) && every exact (records s))
 
 -- the hall whose list these bytes are, if they are one
 unfoldable pub parse : List ℕ → Option Hall
-parse s = cond (structured s) (some (models_in (records s))) none
+parse s = cond (structured s) (Some (models_in (records s))) None

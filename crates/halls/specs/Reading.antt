@@ -1,13 +1,12 @@
 -- What stands behind the address of a LOD header: a list of models, or the number of the first check that fails (document 01, "Halls" and checks 2 to 6).
+use Rattle.std.specs.Prelude.{Option, None, Some, unwrap_or, option_map}
+use Rattle.std.specs.Option.{option_or, option_and_then}
 use Rattle.std.specs.Prelude.{cond, List, [], ◌∷◌, ℕ, suc, ◌+◌, ◌*◌, min, eqb, ltb, length}
-use Rattle.std.proofs.Math.Option.{Option, none, some, map, get_or}
 use Rattle.sections.specs.Address.{Sections, range_of, resolved}
 use Rattle.sections.specs.Lists.{header_of, header_length}
 use Rattle.vertices.specs.Runs.{numbers}
-use Rattle.vertices.specs.Buffer.{layout_number, or_else, vertex_buffer_at}
+use Rattle.vertices.specs.Buffer.{layout_number, vertex_buffer_at}
 use Rattle.vertices.specs.declared.declaration.VertexDeclaration.{VertexDeclaration}
-use Rattle.vertices.specs.declared.buffer.StoredDeclaration.{StoredDeclaration}
-use Rattle.vertices.specs.declared.buffer.StoredDeclaration.TheVariants.{Declaration, Absent}
 use Rattle.vertices.specs.declared.buffer.VertexBuffer.{VertexBuffer}
 use Rattle.halls.specs.List.{Vertices, Indices, Geometry, Model}
 use Rattle.halls.specs.Blocks.{ModelBlock, model_block, GeometryBlock, geometry_block, IndexBlock, index_block}
@@ -19,8 +18,8 @@ pub data Reading (A : Type 0) : Type 0 where
 
 -- what is there goes on, else the check of this number fails
 abbrev pub need : {A B : Type 0} → ℕ → Option A → (A → Reading B) → Reading B
-need check none f = refused check
-need check (some x) f = f x
+need check None f = refused check
+need check (Some x) f = f x
 
 abbrev pub and_then : {A B : Type 0} → Reading A → (A → Reading B) → Reading B
 and_then (refused check) f = refused check
@@ -28,51 +27,49 @@ and_then (read x) f = f x
 
 -- count numbers of width bytes behind a pointer; a list with count 0 or pointer 0 is empty
 unfoldable pub list_at : Sections → ℕ → ℕ → ℕ → Option (List ℕ)
-list_at s width count pointer = cond (eqb count 0) (some []) (cond (eqb pointer 0) (some []) (map (numbers width count) (resolved s pointer (count * width))))
+list_at s width count pointer = cond (eqb count 0) (Some []) (cond (eqb pointer 0) (Some []) (option_map (numbers width count) (resolved s pointer (count * width))))
 
 abbrev pub or_empty : Option (List ℕ) → List ℕ
-or_empty o = get_or o []
+or_empty o = unwrap_or o []
 
 -- ---- indices
 
 -- count indices of width bytes behind a pointer, neither of them 0
 unfoldable pub indices_at : Sections → ℕ → ℕ → ℕ → Option Indices
 indices_at s width count pointer =
-    cond (eqb pointer 0) none (cond (eqb count 0) none (map (λ b. record { count = count; items = numbers width count b }) (resolved s pointer (count * width))))
+    cond (eqb pointer 0) None (cond (eqb count 0) None (option_map (λ b. record { count = count; items = numbers width count b }) (resolved s pointer (count * width))))
 
 -- by the stored size, 2 or 4
 unfoldable pub sized_indices : Sections → ℕ → ℕ → ℕ → Option Indices
-sized_indices s size count pointer = cond (eqb size 2) (indices_at s 2 count pointer) (cond (eqb size 4) (indices_at s 4 count pointer) none)
+sized_indices s size count pointer = cond (eqb size 2) (indices_at s 2 count pointer) (cond (eqb size 4) (indices_at s 4 count pointer) None)
 
 -- two-byte indices, else by the stored size, else the count with no indices
 unfoldable pub indices_of : Sections → IndexBlock → Indices
 indices_of s b =
-    get_or
-    (or_else (indices_at s 2 b.count b.legacy) (sized_indices s b.size b.count b.sized))
+    unwrap_or
+    (option_or (indices_at s 2 b.count b.legacy) (sized_indices s b.size b.count b.sized))
     (record { count = b.count; items = [] })
 
 -- ---- a geometry
 
-abbrev pub declaration_of : StoredDeclaration → Option VertexDeclaration
-declaration_of Absent = none
-declaration_of (Declaration d) = some d
-
 abbrev pub stored_in : Option VertexBuffer → Option VertexDeclaration
-stored_in none = none
-stored_in (some b) = declaration_of b.declaration
+stored_in b = option_and_then (λ (x : VertexBuffer). x.declaration) b
 
 -- the bytes of a found buffer
+abbrev pub content_at : Sections → VertexBuffer → List ℕ
+content_at s b = or_empty (range_of s b.«data» (b.vertex_count * b.vertex_stride))
+
 unfoldable pub vertices_of : Sections → VertexBuffer → Vertices
 vertices_of s b = record {
   layout = layout_number b.layout;
   stride = b.vertex_stride;
   count = b.vertex_count;
-  content = or_empty (range_of s b.«data» (b.vertex_count * b.vertex_stride));
+  content = content_at s b;
 }
 
 abbrev pub count_in : Option VertexBuffer → ℕ
-count_in none = 0
-count_in (some b) = b.vertex_count
+count_in None = 0
+count_in (Some b) = b.vertex_count
 
 -- vertices 0 becomes min(buffer count, 65,535)
 unfoldable pub vertex_count_of : ℕ → Option VertexBuffer → ℕ
@@ -86,8 +83,8 @@ geometry_with s shader b buffer = record {
   vertex_count = vertex_count_of b.vertices buffer;
   stride = b.stride;
   declaration = stored_in buffer;
-  vertices = map (vertices_of s) buffer;
-  indices = map (λ raw. indices_of s (index_block raw)) (resolved s b.index_block 0x60);
+  vertices = option_map (vertices_of s) buffer;
+  indices = option_map (λ raw. indices_of s (index_block raw)) (resolved s b.index_block 0x60);
 }
 
 unfoldable pub geometry_of : Sections → ℕ → GeometryBlock → Geometry
@@ -130,8 +127,8 @@ read_models s before (p ∷ ps) =
 
 -- an unresolved header: the empty list
 abbrev pub read_header : Sections → Option (List ℕ) → Reading (List Model)
-read_header s none = read []
-read_header s (some b) = need 2 (list_at s 8 (header_length (header_of b)) (header_of b).pointer) (read_models s 0)
+read_header s None = read []
+read_header s (Some b) = need 2 (list_at s 8 (header_length (header_of b)) (header_of b).pointer) (read_models s 0)
 
 unfoldable pub read_list : Sections → ℕ → Reading (List Model)
 read_list s va = read_header s (resolved s va 16)

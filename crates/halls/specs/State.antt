@@ -5,7 +5,7 @@ use Rattle.vertices.specs.declared.declaration.VertexDeclaration.{VertexDeclarat
 use Rattle.halls.specs.Checks.{verdict}
 use Rattle.halls.specs.Every.{sum_of, Each}
 use Rattle.halls.specs.Hall.{FullGeometry, FullModel, Hall, hall_bytes}
-use Rattle.halls.specs.declared.check.check.Verdict.TheVariants.{Sound}
+use Rattle.halls.specs.Verdict.{Sound}
 
 pub record Geometry : Type 0 where
   pub shader : ℕ

@@ -7,10 +7,10 @@ use Rattle.halls.specs.Parsing.{models_in}
 use Rattle.halls.specs.Reading.{Reading, refused, read}
 use Rattle.halls.specs.Records.{records}
 use Rattle.halls.specs.State.{State, hall_of, state_of, state_bytes}
-use Rattle.halls.specs.declared.answer.Answer.{Answer}
-use Rattle.halls.specs.declared.answer.Answer.TheVariants.{Accepted, Refused}
-use Rattle.halls.specs.declared.check.check.Verdict.{Verdict}
-use Rattle.halls.specs.declared.check.check.Verdict.TheVariants.{Sound, Fails}
+use Rattle.std.specs.Prelude.{Result, Ok, Err}
+use Rattle.halls.specs.declared.answer.Refusal.{Refusal}
+use Rattle.halls.specs.Verdict.{Verdict}
+use Rattle.halls.specs.Verdict.{Sound, Fails}
 
 -- a refused call leaves the state as it is, with the check's number and the needed bytes
 pub data Step : Type 0 where
@@ -49,15 +49,15 @@ unfoldable pub rewritten : List ℕ → ℕ → List ℕ → List ℕ
 rewritten b n w = w ++ (replicate (n - length w) 0 ++ drop (max n (length w)) b)
 
 -- an acceptance answers the new n
-abbrev pub step_answer : Step → Answer
-step_answer (stays check needed) = Refused (record { check = check; needed = needed })
-step_answer (becomes s) = Accepted (length (state_bytes s))
+abbrev pub step_answer : Step → Result ℕ Refusal
+step_answer (stays check needed) = Err (record { check = check; needed = needed })
+step_answer (becomes s) = Ok (length (state_bytes s))
 
 abbrev pub step_bytes : List ℕ → ℕ → Step → List ℕ
 step_bytes b n (stays check needed) = b
 step_bytes b n (becomes s) = rewritten b n (state_bytes s)
 
 -- What every call ensures of the buffer b at entry, its n, its answer r and the buffer t at exit.
-pub record Stepped (c : Call) (b : List ℕ) (n : ℕ) (r : Answer) (t : List ℕ) : Type 0 where
+pub record Stepped (c : Call) (b : List ℕ) (n : ℕ) (r : Result ℕ Refusal) (t : List ℕ) : Type 0 where
   pub answer : r ≡ step_answer (step_in c b n)
   pub bytes : t ≡ step_bytes b n (step_in c b n)

@@ -1,7 +1,7 @@
 -- How many triangles a list has (the Rust's `triangle_count`): for each geometry its stored index count, or the indices that it holds where that is 0,
 -- in threes.
+use Rattle.std.specs.Prelude.{Option, None, Some}
 use Rattle.std.specs.Prelude.{◌≡◌, Bool, false, cond, List, [], ◌∷◌, ℕ, ◌+◌, ◌-◌, ◌/◌, ◌^◌, ◌<◌, eqb, length}
-use Rattle.std.proofs.Math.Option.{Option, none, some}
 use Rattle.sections.specs.Address.{Sections}
 use Rattle.sections.specs.Le.{field}
 use Rattle.halls.specs.Every.{Each}
@@ -12,8 +12,8 @@ use Rattle.halls.specs.Records.{Record}
 -- ---- of models
 
 abbrev pub held_by : Option Indices → ℕ
-held_by none = 0
-held_by (some i) = length i.items
+held_by None = 0
+held_by (Some i) = length i.items
 
 unfoldable pub triangles_of : Geometry → ℕ
 triangles_of g = cond (eqb g.index_count 0) (held_by g.indices) g.index_count / 3

@@ -1,23 +1,18 @@
-// What a call on a list or a hall answers.
+// What a call on a list or a hall answers where it refuses.
 ghost use Rattle.std.specs.Prelude.{◌≡◌};
-ghost use Rattle.halls.specs.declared.answer.Answer.TheVariants.{Refused};
 
-// The number of the check that failed. `needed` is how long the lent buffer would have to be where its length was the reason, else 0.
-#[derive(Clone, Copy)]
+// The number of the check that failed: a number, since the papers number the checks and C is told it. `needed` is how long the lent buffer would have to be where its length was the reason, else 0.
+#[derive(Clone, Copy, Debug, PartialEq, Eq)]
 pub struct Refusal {
     pub check: u8,
     pub needed: u64,
 }
 
-// An acceptance gives the bytes written.
-#[derive(Clone, Copy)]
-pub enum Answer {
-    Accepted(u64),
-    Refused(Refusal),
-}
-
-pub fn refused(check: u8, needed: u64) -> Answer
-    ensures { result ≡ Refused (record { check = check; needed = needed }) }
-{
-    Answer::Refused(Refusal { check, needed })
+impl Refusal {
+    // For a reason other than a buffer's length.
+    pub(crate) fn by(check: u8) -> Refusal
+        ensures { result ≡ record { check = check; needed = 0 } }
+    {
+        Refusal { check, needed: 0 }
+    }
 }

@@ -2,6 +2,7 @@
 pub mod check;
 pub mod find;
 pub mod geometry;
+pub mod lists;
 pub mod order;
 pub mod pass;
 pub mod scan;

@@ -1,4 +1,6 @@
 // Halls: the list of a drawable's models and geometries, the check that makes it a hall, and the calls that edit one.
+//
+// A hall is lent as a buffer and n, not as a part of a slice: a call that lengthens it writes beyond n, and C lends it so.
 #![tactic(auto)]
 
 mod answer;
@@ -7,9 +9,9 @@ mod edit;
 mod format;
 mod read;
 
-pub use answer::{Answer, Refusal};
-pub use check::check::{HallSize, Verdict, hall_check, hall_size};
-pub use check::find::{FoundGeometry, FoundModel, GeometryPlace, find_geometry, find_model};
+pub use answer::Refusal;
+pub use check::check::{HallSize, hall_check, hall_size};
+pub use check::find::{GeometryPlace, find_geometry, find_model};
 pub use edit::add_geometry::add_geometry;
 pub use edit::add_model::add_model;
 pub use edit::remove::{remove_geometry, remove_model};
@@ -20,4 +22,4 @@ pub use format::front::{GeometryShape, entries_of, shape_of};
 pub use format::model::{bone_index, is_skinned};
 pub use format::triangles::triangle_count;
 pub use read::list::hall_list;
-pub use read::reader::ResReader;
+pub use sections::ResReader;

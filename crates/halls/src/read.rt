@@ -1,8 +1,8 @@
 // From two sections and an address to the list of models and geometries.
+pub mod limited;
 pub mod list;
 pub mod measure;
 pub mod pointers;
-pub mod reader;
 pub mod view;
 pub mod widen;
 pub mod write;

@@ -1,60 +1,30 @@
 // Buffers for lists, and sections and halls that are longer than a row.
-ghost use Rattle.std.specs.Prelude.{◌≡◌, length};
-
 use sections::{put_u64_le, u64_le};
-use testing::{first, rest};
+use testing::{first, pattern, rest};
 
 // A buffer for a list before it is written to.
-pub fn list_buffer() -> [u8; 4096]
-    ensures { length result ≡ 4096 }
-{
-    let mut b = [0; 4096];
-    testing::fill(&mut b, 129);
-    b
-}
-
-fn zeros() -> [u8; 589824]
-    ensures { length result ≡ 589824 }
-{
-    [0; 589824]
+pub fn list_buffer() -> [u8; 4096] {
+    pattern(129)
 }
 
 // The same, for 16,384 geometries.
-pub fn long_list_buffer() -> [u8; 589824]
-    ensures { length result ≡ 589824 }
-{
-    let mut b = zeros();
-    testing::fill(&mut b, 129);
-    b
+pub fn long_list_buffer() -> [u8; SECTION] {
+    pattern(129)
 }
 
-// A section made of a row's bytes: first `runs` runs, then how the section begins. The rest of it is zeros.
-pub fn long_section(data: &[u8], runs: usize) -> [u8; 589824]
-    ensures { length result ≡ 589824 }
-{
-    let mut b = zeros();
-    put_row(&mut b, data, runs);
-    b
-}
+// The bytes of a section that hold a list of 16,384 geometries, and of a hall of as many models and geometries as check 13 allows.
+pub const SECTION: usize = 589_824;
 
-// Room for a hall of as many models and geometries as check 13 allows.
-pub fn hall_zeros() -> [u8; 1494016]
-    ensures { length result ≡ 1494016 }
-{
-    [0; 1494016]
-}
+pub const HALL: usize = 1_494_016;
 
-// What a row's bytes say, over zeros.
+// What a row's bytes say of a section or hall, over zeros: first `runs` runs, then how it begins. It is not handed out as an array: compiled without
+// optimisation, each hand takes the stack for a copy.
 pub fn put_row(b: &mut [u8], data: &[u8], runs: usize) {
     if runs < 100 {
         sections::copy_into(b, 0, rest(data, runs * 32));
-        put_runs(b, first(data, runs * 32));
-    }
-}
-
-fn put_runs(b: &mut [u8], data: &[u8]) {
-    for run in data.chunks_exact(32) {
-        put_run(b, run);
+        for run in first(data, runs * 32).chunks_exact(32) {
+            put_run(b, run);
+        }
     }
 }
 

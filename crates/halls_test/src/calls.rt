@@ -1,10 +1,10 @@
 // Rows about the calls that change a hall. The first a bytes of the b lent, at most 4,096, are the hall.
 // A row's bytes are further arguments, 32 but for an added geometry, then how the buffer begins; a pattern follows.
 use crate::buffers::list_buffer;
-use replay::{answered, called_first};
+use replay::{Call, answered, called_first};
 use sections::u64_le;
 use std::io::{self, Write};
-use testing::{Row, bytes, first, numbers, rest, text};
+use testing::{Row, bytes, first, numbers, rest};
 
 pub fn hall_buffer(data: &[u8], at: usize) -> [u8; 4096] {
     let mut b = list_buffer();
@@ -12,28 +12,38 @@ pub fn hall_buffer(data: &[u8], at: usize) -> [u8; 4096] {
     b
 }
 
-fn call_row(out: &mut impl Write, row: Row, data: &[u8]) -> io::Result<()> {
-    let mut b = hall_buffer(data, 32);
-    let answer = called_first(&mut b, row.a as usize, row.b as usize, row, first(data, 32));
-    answered(out, answer, &b)
+// How many bytes of a row are further arguments.
+fn further(call: Call, data: &[u8]) -> usize {
+    match call {
+        Call::AddGeometry => 56 + (u64_le(data, 16) % 4096) as usize,
+        _ => 32,
+    }
 }
 
-// add_model, with binding c and mask d.
-pub fn add_model_row(out: &mut impl Write, row: Row, data: &[u8]) -> io::Result<()> {
-    text(out, b"add model")?;
-    numbers(out, row, 4)?;
-    call_row(out, row, data)
+// What the call is given: so many of the row's numbers, and so many of its bytes.
+fn given(out: &mut impl Write, call: Call, row: Row, data: &[u8]) -> io::Result<()> {
+    let (count, shown) = match call {
+        Call::RemoveModel => (3, 0),
+        Call::AddModel | Call::RemoveGeometry => (4, 0),
+        Call::ReplaceIndices => (4, 32),
+        Call::SetAttribute => (5, 32),
+        Call::AddGeometry => (5, 56),
+    };
+    write!(out, "{call}")?;
+    numbers(out, row, count)?;
+    if shown != 0 {
+        bytes(out, first(data, shown))?;
+        write!(out, ":")?;
+    }
+    Ok(())
 }
 
-// add_geometry, with shader c, stride d and count e; the others are further arguments, 56 bytes and the vertex bytes.
-pub fn add_geometry_row(out: &mut impl Write, row: Row, data: &[u8]) -> io::Result<()> {
-    let end = 56 + (u64_le(data, 16) % 4096) as usize;
+pub fn call_row(out: &mut impl Write, call: Call, row: Row, data: &[u8]) -> io::Result<()> {
+    let end = further(call, data);
     let mut b = hall_buffer(data, end);
-    text(out, b"add geometry")?;
-    numbers(out, row, 5)?;
-    bytes(out, first(data, 56))?;
-    text(out, b":")?;
+    given(out, call, row, data)?;
     let answer = called_first(
+        call,
         &mut b,
         row.a as usize,
         row.b as usize,
@@ -41,36 +51,4 @@ pub fn add_geometry_row(out: &mut impl Write, row: Row, data: &[u8]) -> io::Resu
         first(data, end),
     );
     answered(out, answer, &b)
-}
-
-// remove_model, of model c.
-pub fn remove_model_row(out: &mut impl Write, row: Row, data: &[u8]) -> io::Result<()> {
-    text(out, b"remove model")?;
-    numbers(out, row, 3)?;
-    call_row(out, row, data)
-}
-
-// remove_geometry, of geometry d of model c.
-pub fn remove_geometry_row(out: &mut impl Write, row: Row, data: &[u8]) -> io::Result<()> {
-    text(out, b"remove geometry")?;
-    numbers(out, row, 4)?;
-    call_row(out, row, data)
-}
-
-// set_attribute, in vertex e of geometry d of model c; semantic, shape and value are further arguments.
-pub fn set_attribute_row(out: &mut impl Write, row: Row, data: &[u8]) -> io::Result<()> {
-    text(out, b"set attribute")?;
-    numbers(out, row, 5)?;
-    bytes(out, first(data, 32))?;
-    text(out, b":")?;
-    call_row(out, row, data)
-}
-
-// replace_indices, of geometry d of model c; the indices are further arguments.
-pub fn replace_indices_row(out: &mut impl Write, row: Row, data: &[u8]) -> io::Result<()> {
-    text(out, b"replace indices")?;
-    numbers(out, row, 4)?;
-    bytes(out, first(data, 32))?;
-    text(out, b":")?;
-    call_row(out, row, data)
 }

@@ -1,15 +1,17 @@
 // Rows about the list of a drawable, behind the header at address c, in a buffer of d bytes.
-use crate::buffers::{list_buffer, long_list_buffer, long_section};
-use halls::{Answer, hall_list};
+use crate::buffers::{SECTION, list_buffer, long_list_buffer, put_row};
+use halls::{Refusal, hall_list};
 use replay::{answered, nothing};
+use sections::ResReader;
 use std::io::{self, Write};
-use testing::{Row, first, number, numbers, rest, text};
+use testing::{Row, first, numbers, rest, zeros};
 
 // hall_list into the first d bytes.
-fn list_into(system: &[u8], graphics: &[u8], row: Row, list: &mut [u8]) -> Answer {
+fn list_into(system: &[u8], graphics: &[u8], row: Row, list: &mut [u8]) -> Result<u64, Refusal> {
     let room = row.d as usize;
     if room <= list.len() {
-        return hall_list(system, graphics, row.c, &mut list[..room]);
+        let reader = ResReader::new(system, graphics);
+        return hall_list(&reader, row.c, &mut list[..room]);
     }
     nothing()
 }
@@ -17,7 +19,7 @@ fn list_into(system: &[u8], graphics: &[u8], row: Row, list: &mut [u8]) -> Answe
 // Sections of a and b bytes, in the row.
 pub fn list_row(out: &mut impl Write, row: Row, data: &[u8]) -> io::Result<()> {
     let mut list = list_buffer();
-    text(out, b"list")?;
+    write!(out, "list")?;
     numbers(out, row, 4)?;
     let at = row.a as usize;
     let answer = list_into(first(data, at), rest(data, at), row, &mut list);
@@ -26,27 +28,29 @@ pub fn list_row(out: &mut impl Write, row: Row, data: &[u8]) -> io::Result<()> {
 
 // A system section of a bytes, at most 589,824, made by e runs, and an empty graphics section.
 pub fn long_row(out: &mut impl Write, row: Row, data: &[u8]) -> io::Result<()> {
-    let section = long_section(data, row.e as usize);
-    text(out, b"long")?;
+    let mut section = zeros::<SECTION>();
+    put_row(&mut section, data, row.e as usize);
+    write!(out, "long")?;
     numbers(out, row, 5)?;
     long_list(out, first(&section, row.a as usize), row)
 }
 
 fn long_list(out: &mut impl Write, system: &[u8], row: Row) -> io::Result<()> {
     let mut list = long_list_buffer();
-    let answer = list_into(system, first(system, 0), row, &mut list);
+    let answer = list_into(system, &[], row, &mut list);
     answered(out, answer, &list)
 }
 
 // bone_index and is_skinned, of the binding a.
 pub fn binding_row(out: &mut impl Write, row: Row) -> io::Result<()> {
     let binding = (row.a % 4294967296) as u32;
-    text(out, b"binding")?;
+    write!(out, "binding")?;
     numbers(out, row, 1)?;
-    number(out, halls::bone_index(binding) as u64)?;
-    if halls::is_skinned(binding) {
-        text(out, b" skinned\n")
-    } else {
-        text(out, b" rigid\n")
-    }
+    let skinned = halls::is_skinned(binding);
+    writeln!(
+        out,
+        " {:x} {}",
+        halls::bone_index(binding),
+        if skinned { "skinned" } else { "rigid" }
+    )
 }

@@ -1,55 +1,55 @@
 // Rows about the finders: in the hall of the first a bytes of the b lent.
-use crate::buffers::{hall_zeros, put_row};
+use crate::buffers::{HALL, put_row};
 use crate::calls::hall_buffer;
-use halls::{FoundGeometry, FoundModel, GeometryPlace};
+use halls::GeometryPlace;
 use std::io::{self, Write};
-use testing::{Row, first, numbers, text};
+use testing::{Row, first, numbers, zeros};
 
 // find_model, of model c, in a buffer as the calls have it.
 pub fn find_model_row(out: &mut impl Write, row: Row, data: &[u8]) -> io::Result<()> {
     let b = hall_buffer(data, 32);
-    text(out, b"find model")?;
+    write!(out, "find model")?;
     model_in(out, first(&b, row.b as usize), row)
 }
 
 // The same in a hall made by e runs.
 pub fn crowded_model_row(out: &mut impl Write, row: Row, data: &[u8]) -> io::Result<()> {
-    let mut b = hall_zeros();
+    let mut b = zeros::<HALL>();
     put_row(&mut b, data, row.e as usize);
-    text(out, b"crowded find model")?;
+    write!(out, "crowded find model")?;
     model_in(out, first(&b, row.b as usize), row)
 }
 
 fn model_in(out: &mut impl Write, lent: &[u8], row: Row) -> io::Result<()> {
     numbers(out, row, 3)?;
     match halls::find_model(lent, row.a as usize, row.c) {
-        FoundModel::At(place) => writeln!(out, " at {place:x}"),
-        FoundModel::Absent => text(out, b" absent\n"),
+        Some(place) => writeln!(out, " at {place:x}"),
+        None => writeln!(out, " absent"),
     }
 }
 
 // find_geometry, of geometry d of model c, in a buffer as the calls have it.
 pub fn find_geometry_row(out: &mut impl Write, row: Row, data: &[u8]) -> io::Result<()> {
     let b = hall_buffer(data, 32);
-    text(out, b"find geometry")?;
+    write!(out, "find geometry")?;
     geometry_in(out, first(&b, row.b as usize), row)
 }
 
 // The same in a hall made by e runs.
 pub fn crowded_geometry_row(out: &mut impl Write, row: Row, data: &[u8]) -> io::Result<()> {
-    let mut b = hall_zeros();
+    let mut b = zeros::<HALL>();
     put_row(&mut b, data, row.e as usize);
-    text(out, b"crowded find geometry")?;
+    write!(out, "crowded find geometry")?;
     geometry_in(out, first(&b, row.b as usize), row)
 }
 
 fn geometry_in(out: &mut impl Write, lent: &[u8], row: Row) -> io::Result<()> {
     numbers(out, row, 4)?;
     match halls::find_geometry(lent, row.a as usize, row.c, row.d) {
-        FoundGeometry::At(p) => places(out, p)?,
-        FoundGeometry::Absent => text(out, b" absent")?,
+        Some(p) => places(out, p)?,
+        None => write!(out, " absent")?,
     }
-    text(out, b"\n")
+    writeln!(out)
 }
 
 fn places(out: &mut impl Write, p: GeometryPlace) -> io::Result<()> {

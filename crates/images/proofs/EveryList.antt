@@ -15,8 +15,8 @@ use Rattle.halls.specs.Hall.{hall_bytes}
 use Rattle.halls.specs.Outcome.{Outcome, refusal, written, answer_of, after}
 use Rattle.halls.specs.State.{State, hall_of, state_bytes, IsState}
 use Rattle.halls.specs.Step.{Step, becomes, step_in, rewritten, step_answer, step_bytes, Stepped}
-use Rattle.halls.specs.declared.answer.Answer.{Answer}
-use Rattle.halls.specs.declared.answer.Answer.TheVariants.{Accepted}
+use Rattle.std.specs.Prelude.{Result, Ok}
+use Rattle.halls.specs.declared.answer.Refusal.{Refusal}
 use Rattle.halls.proofs.StateLaws.{state_of-hall, State-unique}
 use Rattle.images.specs.Claim.{CallList, buffer_of, n_of, bytes_of, image_of, SavedImage, SameHall, Claim}
 use Rattle.images.specs.Image.{image, base}
@@ -47,14 +47,14 @@ saved-is : (l : CallList) (room : ℕ) → length (image_of l) ≤ room → save
 unfolding saved_where
 saved-is l room fit = saved-where l room ∙ rw (le-leb (length (image_of l)) room fit)
 
-saves : (l : CallList) (d : List ℕ) (r : Answer) (t : List ℕ) → Saved (buffer_of l) (n_of l) d r t → length (image_of l) ≤ length d
-    → (r ≡ Accepted (length (image_of l))) × (t ≡ overwrite d 0 (image_of l))
+saves : (l : CallList) (d : List ℕ) (r : Result ℕ Refusal) (t : List ℕ) → Saved (buffer_of l) (n_of l) d r t → length (image_of l) ≤ length d
+    → (r ≡ Ok (length (image_of l))) × (t ≡ overwrite d 0 (image_of l))
 saves l d r t w fit =
     let is : saved (buffer_of l) (n_of l) (length d) ≡ written (image_of l) = saved-is l (length d) fit in
     (w.answer ∙ ap answer_of is, w.bytes ∙ ap (λ (o : Outcome). after o d) is)
 
 -- an acceptance wrote the image, so that the bytes it speaks of are the image
-accepted-bytes : (fits : Bool) (v d t : List ℕ) (size : ℕ) → Accepted size ≡ answer_of (saved_where fits v) → t ≡ after (saved_where fits v) d → take size t ≡ v
+accepted-bytes : (fits : Bool) (v d t : List ℕ) (size : ℕ) → Ok size ≡ answer_of (saved_where fits v) → t ≡ after (saved_where fits v) d → take size t ≡ v
 unfolding saved_where overwrite
 accepted-bytes true v d t size says wrote =
     let long : length v ≡ size = cc in
@@ -64,7 +64,7 @@ accepted-bytes false v d t size says wrote = let clash : ◌≡◌ {A = ℕ} 0 1
 SavedImage_lem : (l : CallList) (v : List ℕ) → SavedImage l v → v ≡ image_of l
 SavedImage_lem l v x =
     let is = saved-where l (length x.room) in
-    let says : Accepted x.size ≡ answer_of (saved_where _ (image_of l)) = x.saved.answer ∙ ap answer_of is in
+    let says : Ok x.size ≡ answer_of (saved_where _ (image_of l)) = x.saved.answer ∙ ap answer_of is in
     let wrote : x.left ≡ after (saved_where _ (image_of l)) x.room = x.saved.bytes ∙ ap (λ (o : Outcome). after o x.room) is in
     x.bytes ∙ accepted-bytes _ (image_of l) x.room x.left x.size says wrote
 
@@ -82,8 +82,8 @@ step-becomes l k fit =
 -- these bytes, taken in over the hall of k, give the hall of l
 abbrev GivesBack : CallList → CallList → List ℕ → Type 0
 GivesBack l k v =
-    n_of l ≤ length (buffer_of k) → (r : Answer) (t : List ℕ) → Stepped (take_in (sections v []) base) (buffer_of k) (n_of k) r t
-    → (r ≡ Accepted (n_of l)) × (take (n_of l) t ≡ bytes_of l)
+    n_of l ≤ length (buffer_of k) → (r : Result ℕ Refusal) (t : List ℕ) → Stepped (take_in (sections v []) base) (buffer_of k) (n_of k) r t
+    → (r ≡ Ok (n_of l)) × (take (n_of l) t ≡ bytes_of l)
 
 returns : (l k : CallList) → GivesBack l k (image_of l)
 unfolding rewritten
@@ -92,7 +92,7 @@ returns l k fit r t w =
     let h = (ended l).held in
     let is : step_in (take_in (sections (image_of l) []) base) (buffer_of k) (n_of k) ≡ becomes s = step-becomes l k fit in
     let left : t ≡ rewritten (buffer_of k) (n_of k) (state_bytes s) = w.bytes ∙ ap (λ (x : Step). step_bytes (buffer_of k) (n_of k) x) is in (
-      w.answer ∙ ap step_answer is ∙ ap Accepted (sym h.shows.long),
+      w.answer ∙ ap step_answer is ∙ ap Ok (sym h.shows.long),
       rw left (take_at (state_bytes s) _ (n_of l) (sym h.shows.long)) ∙ sym (held_bytes h),
     )
 

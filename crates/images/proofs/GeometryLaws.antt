@@ -1,8 +1,8 @@
 -- A geometry's image at an offset of a section is read back from there.
+use Rattle.std.specs.Prelude.{Option, Some}
 use mathlib.Core.Path.{◌≡◌, ap}
 use mathlib.Core.Bool.{true, false}
 use mathlib.Core.List.{List, ◌++◌}
-use mathlib.Core.Option.{some}
 use Prim.Native.Nat.{ℕ, ◌+◌, ◌*◌, ◌^◌, ◌≤◌, ◌<◌}
 use native.Mathlib.Omega.{arith}
 use borrow.Author.Tests.{ltb-true}
@@ -16,8 +16,7 @@ use Rattle.vertices.specs.Declaration.{declaration_bytes}
 use Rattle.vertices.specs.Runs.{numbers, run}
 use Rattle.vertices.proofs.DeclarationLaws.{declaration_inverse, declaration_length_lem}
 use Rattle.vertices.proofs.RunLaws.{length_run, numbers-run}
-use Rattle.vertices.specs.declared.buffer.StoredDeclaration.{StoredDeclaration}
-use Rattle.vertices.specs.declared.buffer.StoredDeclaration.TheVariants.{Declaration}
+use Rattle.vertices.specs.declared.declaration.VertexDeclaration.{VertexDeclaration}
 use Rattle.vertices.specs.declared.buffer.VertexBuffer.{VertexBuffer}
 use Rattle.vertices.specs.declared.buffer.VertexBufferLayout.TheVariants.{Legacy}
 use Rattle.halls.specs.Blocks.{geometry_block}
@@ -71,7 +70,7 @@ GeometryPlaced_lem section at g p =
 -- ---- blocks that lead to vertices and indices
 
 -- the buffer that a block of layout 0 leads to
-abbrev buffer_of : VertexBlock → StoredDeclaration → ℕ → VertexBuffer
+abbrev buffer_of : VertexBlock → Option VertexDeclaration → ℕ → VertexBuffer
 buffer_of b d at = record {
   vertex_stride = b.stride;
   vertex_count = b.count;
@@ -82,13 +81,13 @@ buffer_of b d at = record {
   layout = Legacy;
 }
 
-legacy-found : (s : Sections) (b : VertexBlock) (at : ℕ) → 0 < b.content → 0 < b.count → 0 < b.stride → located s b.content (b.count * b.stride) ≡ System at
-    → legacy_at s Legacy b.content b.count b.stride b.info ≡ some (buffer_of b (stored_declaration s b.info) at)
+legacy-found : (s : Sections) (b : VertexBlock) (at : ℕ) → 0 < b.content → 0 < b.count → 0 < b.stride → located s b.content (b.count * b.stride) ≡ Some (System at)
+    → legacy_at s Legacy b.content b.count b.stride b.info ≡ Some (buffer_of b (stored_declaration s b.info) at)
 unfolding legacy_at vertex_data
 legacy-found s b at p c t e = rw (NotZero_lem b.content p, NotZero_lem b.count c, NotZero_lem b.stride t, e)
 
-Block-found : (s : Sections) (b : VertexBlock) (at : ℕ) → VertexBlockFits b → 0 < b.content → 0 < b.count → 0 < b.stride → located s b.content (b.count * b.stride) ≡ System at
-    → block_buffer s (vertex_block_bytes b) ≡ some (buffer_of b (stored_declaration s b.info) at)
+Block-found : (s : Sections) (b : VertexBlock) (at : ℕ) → VertexBlockFits b → 0 < b.content → 0 < b.count → 0 < b.stride → located s b.content (b.count * b.stride) ≡ Some (System at)
+    → block_buffer s (vertex_block_bytes b) ≡ Some (buffer_of b (stored_declaration s b.info) at)
 unfolding block_buffer
 Block-found s b at f p c t e =
     let bs : List ℕ = vertex_block_bytes b in
@@ -97,8 +96,8 @@ Block-found s b at f p c t e =
     ap (λ (x : VertexBlock). legacy_at s Legacy x.content x.count x.stride x.info) read in
     rw (same, legacy-found s b at p c t e)
 
-Indices-found : (s : Sections) (count pointer : ℕ) (bs : List ℕ) → 0 < pointer → 0 < count → resolved s pointer (count * 2) ≡ some bs
-    → indices_at s 2 count pointer ≡ some (record { count = count; items = numbers 2 count bs })
+Indices-found : (s : Sections) (count pointer : ℕ) (bs : List ℕ) → 0 < pointer → 0 < count → resolved s pointer (count * 2) ≡ Some bs
+    → indices_at s 2 count pointer ≡ Some (record { count = count; items = numbers 2 count bs })
 unfolding indices_at
 Indices-found s count pointer bs p c e = rw (NotZero_lem pointer p, NotZero_lem count c, e)
 
@@ -130,12 +129,12 @@ module _ (section : List ℕ) (short : length section ≤ 67108864) (at : ℕ) (
   unfolding index_block_of
   IndexBlockFits_lem = let e = ends in record { count = w.indices_count; size = lit< tt; legacy = omega arith; sized = lit< tt }
 
-  declaration-stored : stored_declaration (system_only section) (base + declaration_at at) ≡ Declaration g.declaration
+  declaration-stored : stored_declaration (system_only section) (base + declaration_at at) ≡ Some g.declaration
   unfolding stored_declaration
   declaration-stored =
       rw (Placed-resolved section short (declaration_at at) (declaration_bytes g.declaration) 16 (declaration_length_lem g.declaration) p.declaration, declaration_inverse g.declaration w.declaration)
 
-  buffer_found : vertex_buffer_at (system_only section) (base + vertex_block_at at) 0 g.vertex_count g.stride ≡ some (buffer_of (vertex_block_of at g) (Declaration g.declaration) (content_at at))
+  buffer_found : vertex_buffer_at (system_only section) (base + vertex_block_at at) 0 g.vertex_count g.stride ≡ Some (buffer_of (vertex_block_of at g) (Some g.declaration) (content_at at))
   unfolding vertex_buffer_at vertex_block_of
   buffer_found =
       let b : VertexBlock = vertex_block_of at g in
@@ -147,7 +146,7 @@ module _ (section : List ℕ) (short : length section ≤ 67108864) (at : ℕ) (
         declaration-stored,
       )
 
-  Vertices-read : vertices_of (system_only section) (buffer_of (vertex_block_of at g) (Declaration g.declaration) (content_at at)) ≡ g.vertices
+  Vertices-read : vertices_of (system_only section) (buffer_of (vertex_block_of at g) (Some g.declaration) (content_at at)) ≡ g.vertices
   unfolding vertices_of vertex_block_of
   Vertices-read =
       rw (Placed-range section short (content_at at) g.vertices.content (g.vertices.count * g.vertices.stride) f.content p.content, ← f.layout)

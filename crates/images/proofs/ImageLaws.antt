@@ -1,8 +1,8 @@
 -- The image of a sound hall, read and taken in: it gives that hall. So two states with the same image are one.
+use Rattle.std.specs.Prelude.{Some}
 use mathlib.Core.Path.{◌≡◌, refl, sym, ap, ◌∙◌}
 use mathlib.Core.Bool.{Bool, true, false, cond}
 use mathlib.Core.List.{List, [], ◌∷◌, ◌++◌, map}
-use mathlib.Core.Option.{some}
 use Prim.Native.Nat.{ℕ, ◌*◌, ◌≤◌}
 use native.Mathlib.Omega.{arith}
 use borrow.Author.Tests.{le-leb, leb-true}
@@ -22,7 +22,7 @@ use Rattle.halls.specs.ImageSize.{padded, model_size, image_size}
 use Rattle.halls.specs.List as list
 use Rattle.halls.specs.Reading.{read, need, list_at, read_models, read_header, read_list}
 use Rattle.halls.specs.State.{State, StateInWidth, hall_of, state_of}
-use Rattle.halls.specs.declared.check.check.Verdict.TheVariants.{Sound}
+use Rattle.halls.specs.Verdict.{Sound}
 use Rattle.halls.proofs.ReadingLaws.{read-injective}
 use Rattle.halls.proofs.SoundLaws.{SoundHall, verdict-sound, SoundGeometry, SoundModel, sound_models}
 use Rattle.halls.proofs.StateLaws.{sound-InWidth, state_of-hall}
@@ -66,24 +66,24 @@ image-read h w e =
     let whole : Placed section 0 (header_bytes header ++ (pointers ++ models)) = Placed-whole section in
     let behind-header : Placed section 16 (pointers ++ models) = Placed-right (header_bytes header) _ 16 (omega (arith, header_length_lem header)) whole in
     let behind-pointers : Placed section (models_at h) models = Placed-right pointers _ (models_at h) (omega arith) behind-header in
-    let found : resolved (system_only section) base 16 ≡ some (header_bytes header) = Placed-resolved section short 0 (header_bytes header) 16 (header_length_lem header) (Placed-left (header_bytes header) _ whole) in
+    let found : resolved (system_only section) base 16 ≡ Some (header_bytes header) = Placed-resolved section short 0 (header_bytes header) 16 (header_length_lem header) (Placed-left (header_bytes header) _ whole) in
     let fits : HeaderFits header = record { pointer = pointer-fits n 16 (omega arith); count = omega arith; capacity = omega arith } in
     let listed = Placed-list section short 16 8 addressed n (addresses-length model_size (models_at h) h) (laid-addresses model_size model_image model_image-length section short (models_at h) h behind-pointers) (Placed-left pointers _ behind-header) in
-    let counted : read_header (system_only section) (some (header_bytes header)) ≡ need 2 (list_at (system_only section) 8 (header_length header) (pointer_to n 16)) (read_models (system_only section) 0) =
+    let counted : read_header (system_only section) (Some (header_bytes header)) ≡ need 2 (list_at (system_only section) 8 (header_length header) (pointer_to n 16)) (read_models (system_only section) 0) =
     ap (λ (x : PointerListHeader). need 2 (list_at (system_only section) 8 (header_length x) x.pointer) (read_models (system_only section) 0)) (header_read header fits) in
     rw (found, counted, same-both (eqb n 0) n, listed) (models-read section short (models_at h) 0 h w (sound_models h f) behind-pointers (omega arith))
 
 -- ---- taken in
 
-geometries-taken : (gs : List FullGeometry) → Each SoundGeometry gs → all_of (λ (g : list.Geometry). taken_geometry g g.vertices g.indices) (map listed_geometry gs) ≡ some gs
+geometries-taken : (gs : List FullGeometry) → Each SoundGeometry gs → all_of (λ (g : list.Geometry). taken_geometry g g.vertices g.indices) (map listed_geometry gs) ≡ Some gs
 unfolding all_of Each
 geometries-taken [] f = refl
 geometries-taken (g ∷ gs) f = rw (geometries-taken gs f.1, ← f.0.layout)
 
-model_taken_lem : (m : FullModel) → SoundModel m → taken_model (listed_model m) ≡ some m
+model_taken_lem : (m : FullModel) → SoundModel m → taken_model (listed_model m) ≡ Some m
 model_taken_lem m f = rw (geometries-taken m.geometries f.geometries, ← f.mapping)
 
-models-taken : (h : Hall) → Each SoundModel h → all_of taken_model (map listed_model h) ≡ some h
+models-taken : (h : Hall) → Each SoundModel h → all_of taken_model (map listed_model h) ≡ Some h
 unfolding all_of Each
 models-taken [] f = refl
 models-taken (m ∷ ms) f = rw (model_taken_lem m f.0, models-taken ms f.1)

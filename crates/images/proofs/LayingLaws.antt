@@ -17,7 +17,7 @@ use Rattle.images.specs.Fronts.{items_from, items_length, image_limit, Room, Wri
 use Rattle.images.specs.Image.{base, zeros, addresses, laid}
 use Rattle.images.specs.declared.parts.Measured.{Measured}
 use Rattle.images.proofs.LengthLaws.{laid-length}
-use Rattle.images.proofs.PartLaws.{Both, both-start, both-same, entries_fit, items_room, both_entry, both-item, both_end, filled-before}
+use Rattle.images.proofs.PartLaws.{Both, both-start, entries_fit, items_room, both_entry, both-item, both_end, filled-before}
 use Rattle.images.proofs.SizeLaws.{pointers-length}
 use Rattle.images.proofs.WalkLaws.{MeasuredAt, Walking, items-none, items_count, walk_start, walk-measured, walk-fits, walk-size, walk_turn, walk-left}
 
@@ -39,6 +39,14 @@ module _ {A : Type 0} {front : List ℕ → A} {len : List ℕ → ℕ} {size : 
       let n : length entries ≡ 8 * k = entries-length front len size at k s in
       let m : length items ≡ sum_of size (items_from front len k s) = laid-length size image sized at (items_from front len k s) in
       record { walking = walk_start front len size s k at h; both = both-start d table entries at items (omega arith) (omega (arith, r.fits)); low = r.low }
+
+  -- before the first of k turns
+  pub Laying-first : (s : List ℕ) (k : ℕ) (d : List ℕ) (table at : ℕ) → items_length len k s ≤ length s → Room at (sum_of size (items_from front len k s)) d → table + padded (8 * k) ≤ at
+      → Laying front len size image s k d table at d (k - 0) 0 at (table + 8 * 0)
+  Laying-first s k d table at h r apart =
+      let all : k - 0 ≡ k = omega arith in
+      let first : table + 8 * 0 ≡ table = omega arith in
+      rw (all, first) (Laying-start s k d table at h r apart)
 
   module _ {s : List ℕ} {k : ℕ} {d : List ℕ} {table at : ℕ} {b : List ℕ} {left place next entry : ℕ} (w : Laying front len size image s k d table at b left place next entry) where
     module _ (more : 0 < left) where
@@ -103,9 +111,6 @@ module _ {A : Type 0} {front : List ℕ → A} {len : List ℕ → ℕ} {size : 
               }
 
     -- after the last: zeros behind the table
-    pub Laying-same : length b ≡ length d
-    Laying-same = both-same w.both
-
     pub Laying-end : left ≤ 0 → {u : List ℕ} → u ≡ overwrite b (table + 8 * k) (zeros (padded (8 * k) - 8 * k)) → Room at (sum_of size (items_from front len k s)) d → table + padded (8 * k) ≤ at
         → u ≡ with_items size image d table at (items_from front len k s)
     unfolding laid addresses run
@@ -114,3 +119,14 @@ module _ {A : Type 0} {front : List ℕ → A} {len : List ℕ → ℕ} {size : 
         let m = laid-length size image sized at (items_from front len k s) in
         let end = both_end w.both (ap (λ (xs : List A). run 8 (addresses size next xs)) nothing) (ap (laid size image next) nothing) in
         filled-before d table _ (8 * k) at _ end (entries-length front len size at k s) e apart (omega (arith, r.fits))
+
+  -- the turn of the item behind the first i
+  pub Laying-next : {s : List ℕ} {k : ℕ} {d : List ℕ} {table at : ℕ} {b : List ℕ} {i place next : ℕ} → Laying front len size image s k d table at b (k - i) place next (table + 8 * i) → i < k
+      → {address : ℕ} {r : Bool} {t : List ℕ} → address ≡ base + next → Edited (fits b (table + 8 * i) 8) b (table + 8 * i) (bytes 8 address) r t
+      → {m : Measured} {u : List ℕ} → WrittenItem front len size image (take (length s - place) (drop place s)) next t m u
+      → Laying front len size image s k d table at u (k - (i + 1)) (place + m.«length») (next + m.size) (table + 8 * (i + 1))
+  Laying-next {k = k} {table = table} {i = i} w h a e q =
+      let more : 0 < k - i = omega arith in
+      let left : k - (i + 1) ≡ k - i - 1 = omega arith in
+      let entry : table + 8 * (i + 1) ≡ table + 8 * i + 8 = omega arith in
+      rw (left, entry) (Laying-turn w more a e q)

@@ -18,6 +18,7 @@ pub mod WalkLaws
 pub mod FrontLaws
 pub mod SizeLaws
 pub mod LayingLaws
+pub mod ItemLaws
 pub mod WrittenGeometry
 pub mod WrittenModel
 pub mod HallLaws

@@ -1,8 +1,8 @@
 -- A model's image at an offset of a section is read back from there, and so are models one behind the other.
+use Rattle.std.specs.Prelude.{Some}
 use mathlib.Core.Path.{◌≡◌, refl, ap, ◌∙◌}
 use mathlib.Core.Bool.{true}
 use mathlib.Core.List.{List, [], ◌∷◌, ◌++◌, map}
-use mathlib.Core.Option.{some}
 use Prim.Native.Nat.{ℕ, zero, suc, ◌+◌, ◌*◌, ◌^◌, ◌≤◌, ◌<◌}
 use native.Mathlib.Omega.{arith}
 use borrow.Author.Tests.{lt-ltb}
@@ -105,7 +105,7 @@ module _ (section : List ℕ) (short : length section ≤ 67108864) where
           mask = w.mask;
         }
 
-    pointers-read : list_at (system_only section) 8 (length m.geometries) (pointer_to (length m.geometries) (pointers_at at)) ≡ some (addresses geometry_size (geometries_at at m) m.geometries)
+    pointers-read : list_at (system_only section) 8 (length m.geometries) (pointer_to (length m.geometries) (pointers_at at)) ≡ Some (addresses geometry_size (geometries_at at m) m.geometries)
     pointers-read = Placed-list section short (pointers_at at) 8 (addresses geometry_size (geometries_at at m) m.geometries) (length m.geometries)
         (addresses-length geometry_size (geometries_at at m) m.geometries)
         (laid-addresses geometry_size geometry_image geometry_image-length section short (geometries_at at m) m.geometries p.geometries) p.pointers

@@ -1,8 +1,8 @@
 -- Bytes that stand at an offset of a system section, and what an address there leads to.
+use Rattle.std.specs.Prelude.{Some}
 use mathlib.Core.Path.{◌≡◌, refl, sym, ap, ◌∙◌}
 use mathlib.Core.Bool.{true, false}
 use mathlib.Core.List.{List, [], ◌∷◌, ◌++◌, append_assoc, append-nil}
-use mathlib.Core.Option.{some}
 use Prim.Native.Nat.{ℕ, ◌+◌, ◌*◌, ◌-◌, ◌/◌, ◌%◌, ◌^◌, ◌≤◌, ◌<◌}
 use native.Mathlib.Omega.{arith}
 use borrow.Author.Tests.{le-leb, ne_eqb}
@@ -63,7 +63,7 @@ module _ (section : List ℕ) (short : length section ≤ 67108864) (at : ℕ) (
   inside = le-leb (at + n) (length section) (omega (arith, placed_end xs p))
 
   -- the place behind their address, and the bytes there
-  pub Placed-located : located (system_only section) (base + at) n ≡ System at
+  pub Placed-located : located (system_only section) (base + at) n ≡ Some (System at)
   Placed-located =
       let low : at ≤ 67108864 = omega (arith, placed_end xs p) in
       let q30 : (base + at) / 2 ^ 30 ≡ 1 = omega arith in
@@ -75,11 +75,11 @@ module _ (section : List ℕ) (short : length section ≤ 67108864) (at : ℕ) (
       let d : base + at - base ≡ at = omega arith in
       located-system (system_only section) (base + at) n (λ e. omega arith) (λ e. omega arith) (omega arith) ∙ rw (d, inside)
 
-  pub Placed-range : part_of section at n ≡ some xs
+  pub Placed-range : part_of section at n ≡ Some xs
   unfolding part_of
   Placed-range = rw (inside, part_placed xs n long p)
 
-  pub Placed-resolved : resolved (system_only section) (base + at) n ≡ some xs
+  pub Placed-resolved : resolved (system_only section) (base + at) n ≡ Some xs
   unfolding resolved
   Placed-resolved = rw Placed-located Placed-range
 
@@ -89,9 +89,9 @@ NotZero_lem n h = ne_eqb n 0 (λ e. omega arith)
 -- numbers of k bytes, as many as the list has, behind its pointer
 module _ (section : List ℕ) (short : length section ≤ 67108864) (at k : ℕ) where
   pub Placed-list : (xs : List ℕ) (n : ℕ) → length xs ≡ n → ((i : ℕ) → get_or xs i 0 < 256 ^ k) → Placed section at (filled (run k xs))
-      → list_at (system_only section) k n (pointer_to n at) ≡ some xs
+      → list_at (system_only section) k n (pointer_to n at) ≡ Some xs
   unfolding list_at
   Placed-list [] n e below p = rw (← e)
   Placed-list (x ∷ xs) n e below p =
       let ys : List ℕ = x ∷ xs in
-      rw (← e, NotZero_lem (length ys) (omega arith), NotZero_lem (base + at) (omega arith), Placed-resolved section short at (run k ys) (length ys * k) (length_run k ys) (Placed-part (run k ys) p)) (ap some (numbers-run k ys below))
+      rw (← e, NotZero_lem (length ys) (omega arith), NotZero_lem (base + at) (omega arith), Placed-resolved section short at (run k ys) (length ys * k) (length_run k ys) (Placed-part (run k ys) p)) (ap Some (numbers-run k ys below))

@@ -1,8 +1,9 @@
 -- What is read from sections of bytes fits its widths, and so does the state of a hall that is taken in.
+use Rattle.std.specs.Prelude.{Option, None, Some}
+use Rattle.std.specs.Option.{option_or}
 use mathlib.Core.Path.{◌≡◌, subst}
 use mathlib.Core.Bool.{Bool, true, false, cond}
 use mathlib.Core.List.{List, [], ◌∷◌, map}
-use mathlib.Core.Option.{Option, none, some}
 use Prim.{Unit}
 use Prim.Native.Nat.{ℕ, suc, ◌+◌, ◌^◌, ◌≤◌, ◌<◌}
 use native.Mathlib.Omega.{arith}
@@ -12,13 +13,11 @@ use Rattle.sections.specs.Address.{Sections, within_limit, range_of, resolved}
 use Rattle.sections.specs.Le.{field}
 use Rattle.sections.specs.Lists.{header_of, header_length}
 use Rattle.sections.specs.declared.lookup.Located.{Located}
-use Rattle.sections.specs.declared.lookup.Located.TheVariants.{System, Graphics, Nothing}
 use Rattle.sections.proofs.LeLaws.{field_bound}
-use Rattle.vertices.specs.Buffer.{declaration_in, stored_declaration, vertex_data, found_at, legacy_at, plain_at, or_else, block_buffer, in_block, vertex_buffer_at}
+use Rattle.vertices.specs.Buffer.{stored_declaration, vertex_data, found_at, legacy_at, plain_at, block_buffer, in_block, vertex_buffer_at}
 use Rattle.vertices.specs.Declaration.{InWidth}
 use Rattle.vertices.specs.Runs.{numbers}
-use Rattle.vertices.specs.declared.buffer.StoredDeclaration.{StoredDeclaration}
-use Rattle.vertices.specs.declared.buffer.StoredDeclaration.TheVariants.{Absent}
+use Rattle.vertices.specs.declared.declaration.VertexDeclaration.{VertexDeclaration}
 use Rattle.vertices.specs.declared.buffer.VertexBuffer.{VertexBuffer}
 use Rattle.vertices.specs.declared.buffer.VertexBufferLayout.{VertexBufferLayout}
 use Rattle.vertices.specs.declared.buffer.VertexBufferLayout.TheVariants.{Legacy, LegacyData2, Gen9, GeometryInline}
@@ -38,7 +37,6 @@ use Rattle.halls.specs.Reading.{
   indices_at,
   sized_indices,
   indices_of,
-  declaration_of,
   stored_in,
   vertices_of,
   geometry_with,
@@ -61,9 +59,9 @@ use Rattle.halls.proofs.SoundEdits.{each_to}
 
 -- ---- what may be there has a property
 
-there_else : {A : Type 0} (P : A → Type 0) (x y : Option A) → IfThere P x → IfThere P y → IfThere P (or_else x y)
-there_else P none y v w = w
-there_else P (some a) y v w = v
+there_else : {A : Type 0} (P : A → Type 0) (x y : Option A) → IfThere P x → IfThere P y → IfThere P (option_or x y)
+there_else P None y v w = w
+there_else P (Some a) y v w = v
 
 -- ---- what was read has a property
 
@@ -77,8 +75,8 @@ read-cond P false x y v w = w
 
 read-need : {A B : Type 0} (Q : A → Type 0) (P : B → Type 0) (check : ℕ) (o : Option A) (f : A → Reading B) → IfThere Q o → ((x : A) → Q x → IfRead P (f x))
     → IfRead P (need check o f)
-read-need Q P check none f v h = tt
-read-need Q P check (some x) f v h = h x v
+read-need Q P check None f v h = tt
+read-need Q P check (Some x) f v h = h x v
 
 read-then : {A B : Type 0} (Q : A → Type 0) (P : B → Type 0) (r : Reading A) (f : A → Reading B) → IfRead Q r → ((x : A) → Q x → IfRead P (f x))
     → IfRead P (and_then r f)
@@ -89,7 +87,7 @@ read-then Q P (read x) f v h = h x v
 
 record BufferFits (b : VertexBuffer) : Type 0 where
   stride : b.vertex_stride < 2 ^ 16
-  declaration : IfThere InWidth (declaration_of b.declaration)
+  declaration : IfThere InWidth b.declaration
 
 record VerticesFit (v : Vertices) : Type 0 where
   stride : v.stride < 2 ^ 16
@@ -125,8 +123,8 @@ module _ (s : Sections) (system : AllBytes s.system) (graphics : AllBytes s.grap
   unfolding list_at Each
   list-fits width count pointer =
       let Fit : List ℕ → Type 0 = Each (λ (i : ℕ). i < 256 ^ width) in
-      there-cond Fit (eqb count 0) (some []) _ tt
-      (there-cond Fit (eqb pointer 0) (some []) _ tt
+      there-cond Fit (eqb count 0) (Some []) _ tt
+      (there-cond Fit (eqb pointer 0) (Some []) _ tt
       (there-map AllBytes Fit (numbers width count) (λ b f. numbers-below width count b f) (resolved s pointer _) (resolved-bytes pointer _)))
 
   -- ---- indices
@@ -134,8 +132,8 @@ module _ (s : Sections) (system : AllBytes s.system) (graphics : AllBytes s.grap
   indices_at-fit : (width count pointer : ℕ) → 256 ^ width ≤ 2 ^ 32 → IfThere IndicesFit (indices_at s width count pointer)
   unfolding indices_at
   indices_at-fit width count pointer h =
-      there-cond IndicesFit (eqb pointer 0) none _ tt
-      (there-cond IndicesFit (eqb count 0) none _ tt
+      there-cond IndicesFit (eqb pointer 0) None _ tt
+      (there-cond IndicesFit (eqb count 0) None _ tt
       (there-map AllBytes IndicesFit _ (λ b f. each_to (λ (x : ℕ) (l : x < 256 ^ width). omega arith) (numbers width count b) (numbers-below width count b f)) (resolved s pointer _) (resolved-bytes pointer _)))
 
   IndicesFit_lem : (b : IndexBlock) → IndicesFit (indices_of s b)
@@ -144,35 +142,33 @@ module _ (s : Sections) (system : AllBytes s.system) (graphics : AllBytes s.grap
       let two : (pointer : ℕ) → IfThere IndicesFit (indices_at s 2 b.count pointer) = λ pointer. indices_at-fit 2 b.count pointer (omega arith) in
       let four : IfThere IndicesFit (indices_at s 4 b.count b.sized) = indices_at-fit 4 b.count b.sized (omega arith) in
       let sized : IfThere IndicesFit (sized_indices s b.size b.count b.sized) =
-      there-cond IndicesFit (eqb b.size 2) _ _ (two b.sized) (there-cond IndicesFit (eqb b.size 4) _ none four tt) in
-      there_or IndicesFit (or_else (indices_at s 2 b.count b.legacy) (sized_indices s b.size b.count b.sized)) _
+      there-cond IndicesFit (eqb b.size 2) _ _ (two b.sized) (there-cond IndicesFit (eqb b.size 4) _ None four tt) in
+      there_or IndicesFit (option_or (indices_at s 2 b.count b.legacy) (sized_indices s b.size b.count b.sized)) _
       (there_else IndicesFit (indices_at s 2 b.count b.legacy) (sized_indices s b.size b.count b.sized) (two b.legacy) sized) tt
 
   -- ---- vertices
 
-  stored-fits : (o : Option (List ℕ)) → IfThere AllBytes o → IfThere InWidth (declaration_of (declaration_in o))
-  stored-fits none f = tt
-  stored-fits (some b) f = declaration_in-width b 0 f
+  stored-fits : (info : ℕ) → IfThere InWidth (stored_declaration s info)
+  unfolding stored_declaration
+  stored-fits info = there-map AllBytes InWidth _ (λ b f. declaration_in-width b 0 f) (resolved s info 16) (resolved-bytes info 16)
 
-  Found-fits : (layout : VertexBufferLayout) (stride count pointer info : ℕ) (d : StoredDeclaration) → stride < 2 ^ 16 → IfThere InWidth (declaration_of d) → (place : Located)
+  Found-fits : (layout : VertexBufferLayout) (stride count pointer info : ℕ) (d : Option VertexDeclaration) → stride < 2 ^ 16 → IfThere InWidth d → (place : Option Located)
       → IfThere BufferFits (found_at layout stride count pointer info d place)
-  Found-fits layout stride count pointer info d h w Nothing = tt
-  Found-fits layout stride count pointer info d h w (System at) = record { stride = h; declaration = w }
-  Found-fits layout stride count pointer info d h w (Graphics at) = record { stride = h; declaration = w }
+  Found-fits layout stride count pointer info d h w None = tt
+  Found-fits layout stride count pointer info d h w (Some at) = record { stride = h; declaration = w }
 
   legacy-fits : (layout : VertexBufferLayout) (pointer count stride info : ℕ) → stride < 2 ^ 16 → IfThere BufferFits (legacy_at s layout pointer count stride info)
-  unfolding legacy_at stored_declaration
-  legacy-fits layout pointer count stride info h =
-      Found-fits layout stride count pointer info (stored_declaration s info) h (stored-fits (resolved s info 16) (resolved-bytes info 16)) (vertex_data s pointer count stride)
+  unfolding legacy_at
+  legacy-fits layout pointer count stride info h = Found-fits layout stride count pointer info (stored_declaration s info) h (stored-fits info) (vertex_data s pointer count stride)
 
   plain_fits : (layout : VertexBufferLayout) (pointer count stride : ℕ) → stride < 2 ^ 16 → IfThere BufferFits (plain_at s layout pointer count stride)
   unfolding plain_at
-  plain_fits layout pointer count stride h = Found-fits layout stride count pointer 0 Absent h tt (vertex_data s pointer count stride)
+  plain_fits layout pointer count stride h = Found-fits layout stride count pointer 0 None h tt (vertex_data s pointer count stride)
 
   Block-fits : (o : Option (List ℕ)) → IfThere AllBytes o → IfThere BufferFits (in_block s o)
   unfolding block_buffer
-  Block-fits none f = tt
-  Block-fits (some b) f =
+  Block-fits None f = tt
+  Block-fits (Some b) f =
       there_else BufferFits (legacy_at s Legacy _ _ _ _) _ (legacy-fits Legacy _ _ _ _ (field_bound 2 b 0x08 f))
       (there_else BufferFits (legacy_at s LegacyData2 _ _ _ _) _ (legacy-fits LegacyData2 _ _ _ _ (field_bound 2 b 0x08 f)) (plain_fits Gen9 _ _ _ (field_bound 2 b 0x0C f)))
 
@@ -191,8 +187,8 @@ module _ (s : Sections) (system : AllBytes s.system) (graphics : AllBytes s.grap
   -- ---- geometries
 
   stored_in-fits : (o : Option VertexBuffer) → IfThere BufferFits o → IfThere InWidth (stored_in o)
-  stored_in-fits none w = tt
-  stored_in-fits (some b) w = w.declaration
+  stored_in-fits None w = tt
+  stored_in-fits (Some b) w = w.declaration
 
   GeometryFits_lem : (shader : ℕ) (b : List ℕ) → shader < 2 ^ 16 → AllBytes b → GeometryFits (geometry_of s shader (geometry_block b))
   unfolding geometry_of geometry_with geometry_block
@@ -257,8 +253,8 @@ module _ (s : Sections) (system : AllBytes s.system) (graphics : AllBytes s.grap
 
   HeaderFits_lem : (o : Option (List ℕ)) → IfRead (Each ModelFits) (read_header s o)
   unfolding Each
-  HeaderFits_lem none = tt
-  HeaderFits_lem (some b) =
+  HeaderFits_lem None = tt
+  HeaderFits_lem (Some b) =
       let pointer : ℕ = (header_of b).pointer in
       let Pointers : List ℕ → Type 0 = Each (λ (i : ℕ). i < 256 ^ 8) in
       read-need Pointers (Each ModelFits) 2 (list_at s 8 (header_length (header_of b)) pointer) (read_models s 0)
@@ -274,9 +270,9 @@ ModelKept m = ModelInWidth (model_state m)
 
 geometry_taken-fits : (g : Geometry) → GeometryFits g → (v : Option Vertices) (i : Option Indices) → IfThere VerticesFit v → IfThere IndicesFit i
     → IfThere GeometryKept (taken_geometry g v i)
-geometry_taken-fits g w none i x y = tt
-geometry_taken-fits g w (some v) none x y = tt
-geometry_taken-fits g w (some v) (some i) x y = record {
+geometry_taken-fits g w None i x y = tt
+geometry_taken-fits g w (Some v) None x y = tt
+geometry_taken-fits g w (Some v) (Some i) x y = record {
   shader = w.shader;
   declaration = there_or InWidth g.declaration _ w.declaration (position-InWidth v.stride x.stride);
   stride = w.stride;
@@ -286,9 +282,9 @@ geometry_taken-fits g w (some v) (some i) x y = record {
 
 both-there : {B : Type 0} (P : B → Type 0) (o : Option B) (os : Option (List B)) → IfThere P o → IfThere (Each P) os → IfThere (Each P) (both (λ y ys. y ∷ ys) o os)
 unfolding Each
-both-there P none os v w = tt
-both-there P (some y) none v w = tt
-both-there P (some y) (some ys) v w = (v, w)
+both-there P None os v w = tt
+both-there P (Some y) None v w = tt
+both-there P (Some y) (Some ys) v w = (v, w)
 
 all_there : {A B : Type 0} (P : B → Type 0) (f : A → Option B) (xs : List A) → Each (λ (x : A). IfThere P (f x)) xs → IfThere (Each P) (all_of f xs)
 unfolding all_of Each
@@ -315,8 +311,8 @@ test-passed check false next x e = absurd (not-read e)
 
 models-kept : (o : Option Hall) (h : Hall) → IfThere (Each ModelKept) o → need 11 o read ≡ read h → StateInWidth (state_of h)
 unfolding state_of
-models-kept none h w e = absurd (not-read e)
-models-kept (some x) h w e = rw (← read-injective e) (each_map ModelInWidth model_state x w)
+models-kept None h w e = absurd (not-read e)
+models-kept (Some x) h w e = rw (← read-injective e) (each_map ModelInWidth model_state x w)
 
 pub taken-InWidth : (s : Sections) → AllBytes s.system → AllBytes s.graphics → (address : ℕ) (h : Hall) → taken s address ≡ read h → StateInWidth (state_of h)
 unfolding taken read_list

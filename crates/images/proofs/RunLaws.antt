@@ -19,8 +19,8 @@ use Rattle.halls.specs.Reading.{Reading, refused, read}
 use Rattle.halls.specs.Records.{records}
 use Rattle.halls.specs.State.{State, hall_of, state_bytes, state_of, StateInWidth, IsState}
 use Rattle.halls.specs.Step.{Step, stays, becomes, if_sound, settled, step, step_in, step_answer, step_bytes, Stepped}
-use Rattle.halls.specs.declared.check.check.Verdict.{Verdict}
-use Rattle.halls.specs.declared.check.check.Verdict.TheVariants.{Sound, Fails}
+use Rattle.halls.specs.Verdict.{Verdict}
+use Rattle.halls.specs.Verdict.{Sound, Fails}
 use Rattle.halls.proofs.ParsingLaws.{hall-read}
 use Rattle.halls.proofs.RecordBytes.{hall_records_lem}
 use Rattle.halls.proofs.StateLaws.{hall_of-state, state_of-hall, sound-InWidth, State-sound}

@@ -13,11 +13,11 @@ use Rattle.halls.specs.HallSize.{size_by, hall_size}
 use Rattle.halls.specs.ImageSize.{padded, model_size, image_size}
 use Rattle.halls.specs.Parsing.{models_in}
 use Rattle.halls.specs.Records.{records}
-use Rattle.halls.specs.declared.answer.Answer.{Answer}
-use Rattle.halls.specs.declared.answer.Answer.TheVariants.{Accepted, Refused}
-use Rattle.halls.specs.declared.check.check.HallSize.TheVariants.{Sized, Unsound}
-use Rattle.halls.specs.declared.check.check.Verdict.{Verdict}
-use Rattle.halls.specs.declared.check.check.Verdict.TheVariants.{Sound, Fails}
+use Rattle.std.specs.Prelude.{Result, Ok, Err}
+use Rattle.halls.specs.declared.answer.Refusal.{Refusal}
+use Rattle.halls.specs.declared.check.check.HallSize.{HallSize}
+use Rattle.halls.specs.Verdict.{Verdict}
+use Rattle.halls.specs.Verdict.{Sound, Fails}
 use Rattle.images.specs.Fronts.{models_from, models_size, models_length, model_length, front_model, image_limit, hall_of_list, model_count, SoundList, SavedList, with_items}
 use Rattle.images.specs.Image.{header_bytes, pointer_to, filled, addresses, laid, model_image, image}
 use Rattle.images.specs.Saving.{saved, Saved}
@@ -79,36 +79,49 @@ module _ (h : Hall) (d : List ℕ) (size : ℕ) (q : size ≡ image_size h) wher
   long = image-length h ∙ sym q
 
   -- check 20
-  pub saved-short : length d < size → SavedList h d (Refused (record { check = 20; needed = size })) d
+  pub saved-short : length d < size → SavedList h d (Err (record { check = 20; needed = size })) d
   saved-short short = record { answer = rw (long, lt-leb size (length d) short); bytes = rw (long, lt-leb size (length d) short) }
 
-  pub saved-done : size ≤ length d → {t : List ℕ} → t ≡ overwrite d 0 (image h) → SavedList h d (Accepted size) t
-  saved-done fit e = record { answer = rw (long, le-leb size (length d) fit) (ap {B = Answer} Accepted (sym long)); bytes = rw (long, le-leb size (length d) fit) e }
+  pub saved-done : size ≤ length d → {t : List ℕ} → t ≡ overwrite d 0 (image h) → SavedList h d (Ok size) t
+  saved-done fit e = record { answer = rw (long, le-leb size (length d) fit) (ap {B = (Result ℕ Refusal)} Ok (sym long)); bytes = rw (long, le-leb size (length d) fit) e }
 
 -- what the check tells of a sound hall, and of another list
-sized-by : (v : Verdict) (h : Hall) (models size : ℕ) → size_by v h ≡ Sized models size → (v ≡ Sound) × (models ≡ length h) × (size ≡ image_size h)
-sized-by Sound h models size e = (refl, cc, cc)
-sized-by (Fails check) h models size e = let z : ◌≡◌ {A = ℕ} 0 1 = cc in absurd (omega arith)
+size_or : HallSize → Result HallSize Refusal → HallSize
+size_or default (Ok size) = size
+size_or default (Err e) = default
 
-unsound_by : (v : Verdict) (h : Hall) (check : ℕ) → size_by v h ≡ Unsound check → v ≡ Fails check
-unsound_by Sound h check e = let z : ◌≡◌ {A = ℕ} 0 1 = cc in absurd (omega arith)
-unsound_by (Fails i) h check e = cc
+refusal_or : Refusal → Result HallSize Refusal → Refusal
+refusal_or default (Ok size) = default
+refusal_or default (Err e) = e
 
-pub sized-is : (b : List ℕ) (n models size : ℕ) → hall_size b n ≡ Sized models size
-    → (hall_verdict b n ≡ Sound) × (models ≡ model_count (take n b)) × (size ≡ image_size (hall_of_list (take n b)))
+sized-by : (v : Verdict) (h : Hall) (size : HallSize) → Ok size ≡ size_by v h → (v ≡ Sound) × (size.models ≡ length h) × (size.bytes ≡ image_size h)
+unfolding size_or
+sized-by Sound h size e = let same = ap (size_or size) e in (refl, ap (λ (x : HallSize). x.models) same, ap (λ (x : HallSize). x.bytes) same)
+sized-by (Fails check) h size e = let z : ◌≡◌ {A = ℕ} 0 1 = cc in absurd (omega arith)
+
+unsound_by : (v : Verdict) (h : Hall) (e : Refusal) → Err e ≡ size_by v h → (v ≡ Fails e.check) × (e ≡ record { check = e.check; needed = 0 })
+unfolding refusal_or
+unsound_by Sound h e q = let z : ◌≡◌ {A = ℕ} 0 1 = cc in absurd (omega arith)
+unsound_by (Fails i) h e q =
+    let same = ap (refusal_or e) q in
+    let check : e.check ≡ i = ap (λ (x : Refusal). x.check) same in
+    (ap Fails (sym check), same ∙ ap (λ (k : ℕ). record { check = k; needed = 0 }) (sym check))
+
+pub sized-is : (b : List ℕ) (n : ℕ) (size : HallSize) → Ok size ≡ hall_size b n
+    → (hall_verdict b n ≡ Sound) × (size.models ≡ model_count (take n b)) × (size.bytes ≡ image_size (hall_of_list (take n b)))
 unfolding hall_size
-sized-is b n models size e = sized-by (hall_verdict b n) (hall_of_list (take n b)) models size e
+sized-is b n size e = sized-by (hall_verdict b n) (hall_of_list (take n b)) size e
 
-pub unsound_is : (b : List ℕ) (n check : ℕ) → hall_size b n ≡ Unsound check → hall_verdict b n ≡ Fails check
+pub unsound_is : (b : List ℕ) (n : ℕ) (e : Refusal) → Err e ≡ hall_size b n → (hall_verdict b n ≡ Fails e.check) × (e ≡ record { check = e.check; needed = 0 })
 unfolding hall_size
-unsound_is b n check e = unsound_by (hall_verdict b n) (hall_of_list (take n b)) check e
+unsound_is b n e q = unsound_by (hall_verdict b n) (hall_of_list (take n b)) e q
 
 module _ (b : List ℕ) (n : ℕ) (d : List ℕ) where
   -- the checks of a hall
-  pub saved-fails : (check : ℕ) → hall_verdict b n ≡ Fails check → Saved b n d (Refused (record { check = check; needed = 0 })) d
+  pub saved-fails : (check : ℕ) → hall_verdict b n ≡ Fails check → Saved b n d (Err (record { check = check; needed = 0 })) d
   unfolding saved
   saved-fails check e = record { answer = rw e; bytes = rw e }
 
-  pub saved-sound : {r : Answer} {t : List ℕ} → hall_verdict b n ≡ Sound → SavedList (models_in (records (take n b))) d r t → Saved b n d r t
+  pub saved-sound : {r : Result ℕ Refusal} {t : List ℕ} → hall_verdict b n ≡ Sound → SavedList (models_in (records (take n b))) d r t → Saved b n d r t
   unfolding saved
   saved-sound e w = record { answer = rw e w.answer; bytes = rw e w.bytes }

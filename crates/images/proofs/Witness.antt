@@ -19,7 +19,7 @@ use Rattle.halls.specs.Parsing.{records_length, whole, follows, may_end, ordered
 use Rattle.halls.specs.Records.{body_length, front_record, first_records, records}
 use Rattle.halls.specs.State.{hall_of, state_bytes, state_of}
 use Rattle.halls.specs.Step.{step, step_in, rewritten, step_answer, step_bytes}
-use Rattle.halls.specs.declared.answer.Answer.TheVariants.{Accepted}
+use Rattle.std.specs.Prelude.{Ok}
 use Rattle.images.specs.Claim.{CallList, n_of, image_of}
 use Rattle.images.specs.Image.{header_bytes, model_block_bytes, geometry_block_bytes, vertex_block_bytes, index_block_bytes, filled, laid, addresses, geometry_block_of, vertex_block_of, index_block_of, geometry_image, model_block_of, model_image, image}
 use Rattle.images.specs.Runs.{Bytes, GivenFits, Made, Ran, next_n, n_after, state_after}
@@ -67,7 +67,7 @@ two_calls = record {
   ran = ((omega arith, omega arith), record { answer = refl; bytes = refl }, (triangle-fits, record { answer = refl; bytes = refl }, tt));
 }
 
-pub both-accepted : (model_added.answer ≡ Accepted 12) × (geometry_added.answer ≡ Accepted 127)
+pub both-accepted : (model_added.answer ≡ Ok 12) × (geometry_added.answer ≡ Ok 127)
 unfolding model_added geometry_added made_of buffer triangle step_in rewritten hall_verdict parse structured whole records first_records front_record body_length records_length ordered follows may_end due_length exact every models_in geometries_in verdict vertex_bytes_exact mapping_matches same_numbers counts_within_limits geometry_count strides_agree components_inside vertex_counts_agree index_counts_agree indices_in_range triangles_distinct triangles_of has_three_vertices image_within_limit image_size model_size geometry_size sum_of proposed hall_of state_of state_bytes hall_bytes each write_model write_geometry model_record geometry_record declaration_record vertices_record indices_record record_bytes bytes run le field part numbers declaration_at declaration_bytes components_from components_of component_of with_index sizes total_size component_type_of semantic_of
 both-accepted = (refl, refl)
 

@@ -5,8 +5,8 @@ use Rattle.sections.specs.Edit.{overwrite}
 use Rattle.halls.specs.Calls.{take_in}
 use Rattle.halls.specs.State.{hall_of}
 use Rattle.halls.specs.Step.{Stepped}
-use Rattle.halls.specs.declared.answer.Answer.{Answer}
-use Rattle.halls.specs.declared.answer.Answer.TheVariants.{Accepted}
+use Rattle.std.specs.Prelude.{Result, Ok}
+use Rattle.halls.specs.declared.answer.Refusal.{Refusal}
 use Rattle.images.specs.Image.{image, base}
 use Rattle.images.specs.Saving.{Saved}
 use Rattle.images.specs.Runs.{Made, Ran, buffer_after, n_after, state_after, Agrees}
@@ -36,7 +36,7 @@ pub record SavedImage (l : CallList) (v : List ℕ) : Type 0 where
   pub room : List ℕ
   pub size : ℕ
   pub left : List ℕ
-  pub saved : Saved (buffer_of l) (n_of l) room (Accepted size) left
+  pub saved : Saved (buffer_of l) (n_of l) room (Ok size) left
   pub bytes : v ≡ take size left
 
 -- Two halls are equal when their n and their n bytes are.
@@ -48,11 +48,11 @@ pub record Claim : Type 0 where
   -- Every answer, n and the first n bytes equal those of the abstract state given the same calls.
   pub agrees : (l : CallList) → Agrees l.first l.first 0 0 [] l.made
   -- That hall saves into every image buffer long enough. (`Saved` is what save ensures.)
-  pub saves : (l : CallList) (d : List ℕ) (r : Answer) (t : List ℕ) → Saved (buffer_of l) (n_of l) d r t → length (image_of l) ≤ length d
-      → (r ≡ Accepted (length (image_of l))) × (t ≡ overwrite d 0 (image_of l))
+  pub saves : (l : CallList) (d : List ℕ) (r : Result ℕ Refusal) (t : List ℕ) → Saved (buffer_of l) (n_of l) d r t → length (image_of l) ≤ length d
+      → (r ≡ Ok (length (image_of l))) × (t ≡ overwrite d 0 (image_of l))
   -- Its image, taken in over any hall that such a list leaves in a buffer long enough, gives the same hall.
-  pub returns : (l k : CallList) (v : List ℕ) → SavedImage l v → n_of l ≤ length (buffer_of k) → (r : Answer) (t : List ℕ)
-      → Stepped (take_in (sections v []) base) (buffer_of k) (n_of k) r t → (r ≡ Accepted (n_of l)) × (take (n_of l) t ≡ bytes_of l)
+  pub returns : (l k : CallList) (v : List ℕ) → SavedImage l v → n_of l ≤ length (buffer_of k) → (r : Result ℕ Refusal) (t : List ℕ)
+      → Stepped (take_in (sections v []) base) (buffer_of k) (n_of k) r t → (r ≡ Ok (n_of l)) × (take (n_of l) t ≡ bytes_of l)
   -- Two such lists save equal images exactly when their halls are equal.
   pub equal_images : (l k : CallList) (v w : List ℕ) → SavedImage l v → SavedImage k w → v ≡ w → SameHall l k
   pub equal_halls : (l k : CallList) (v w : List ℕ) → SavedImage l v → SavedImage k w → SameHall l k → v ≡ w

@@ -12,8 +12,9 @@ use Rattle.halls.specs.ImageSize.{padded, geometry_size, model_size, image_size}
 use Rattle.halls.specs.Parsing.{model_in, models_in}
 use Rattle.halls.specs.Records.{records}
 use Rattle.halls.specs.Outcome.{answer_of, after}
-use Rattle.halls.specs.declared.answer.Answer.{Answer}
-use Rattle.halls.specs.declared.check.check.Verdict.TheVariants.{Sound}
+use Rattle.std.specs.Prelude.{Result}
+use Rattle.halls.specs.declared.answer.Refusal.{Refusal}
+use Rattle.halls.specs.Verdict.{Sound}
 use Rattle.images.specs.Image.{VertexBlock, base, addresses, filled, laid, geometry_block_bytes, geometry_image, model_image, pointer_to, vertex_block_bytes}
 use Rattle.images.specs.Saving.{saved_by}
 use Rattle.images.specs.declared.parts.Measured.{Measured}
@@ -129,6 +130,20 @@ pub record ModelsRoomBehind (k : ℕ) (s : List ℕ) (table at : ℕ) (out : Lis
   pub room : Room at (models_size k s) out
   pub apart : table + padded (8 * k) ≤ at
 
+-- items of any kind, each known by the list from its front on
+abbrev pub here : List ℕ → List ℕ
+here s = s
+
+-- their images are as long as is told, and what k + 1 of them are, the first is and the k others are
+pub record ItemsFollow (len size : List ℕ → ℕ) (image : ℕ → List ℕ → List ℕ) (few : ℕ → List ℕ → Type 0) : Type 0 where
+  pub sized : (at : ℕ) (s : List ℕ) → length (image at s) ≡ size s
+  pub fewer : (k : ℕ) (s : List ℕ) → few (suc k) s → few 1 s × few k (drop (len s) s)
+
+pub record RoomBehind (len size : List ℕ → ℕ) (k : ℕ) (s : List ℕ) (table at : ℕ) (out : List ℕ) : Type 0 where
+  pub within : items_length len k s ≤ length s
+  pub room : Room at (sum_of size (items_from here len k s)) out
+  pub apart : table + padded (8 * k) ≤ at
+
 -- ---- items written
 
 -- d with the images of items from `at` on, and their addresses at `table`
@@ -145,6 +160,10 @@ WrittenGeometry s at d r t = WrittenItem front_geometry geometry_length geometry
 
 abbrev pub WrittenModel : List ℕ → ℕ → List ℕ → Measured → List ℕ → Type 0
 WrittenModel s at d r t = WrittenItem front_model model_length model_size model_image s at d r t
+
+pub record WrittenItems {A : Type 0} (front : List ℕ → A) (len : List ℕ → ℕ) (size : A → ℕ) (image : ℕ → A → List ℕ) (k : ℕ) (s : List ℕ) (table at : ℕ) (d : List ℕ) (r : Measured) (t : List ℕ) : Type 0 where
+  pub measured : r ≡ record { «length» = items_length len k s; size = sum_of size (items_from front len k s) }
+  pub bytes : t ≡ with_items size image d table at (items_from front len k s)
 
 pub record WrittenGeometries (k : ℕ) (s : List ℕ) (table at : ℕ) (d : List ℕ) (r : Measured) (t : List ℕ) : Type 0 where
   pub measured : r ≡ record { «length» = geometries_length k s; size = geometries_size k s }
@@ -166,6 +185,6 @@ pub record SoundList (s : List ℕ) : Type 0 where
   pub low : image_size (hall_of_list s) ≤ image_limit
 
 -- what save answers, r, and leaves of the buffer d, t, where the hall is sound
-pub record SavedList (h : Hall) (d : List ℕ) (r : Answer) (t : List ℕ) : Type 0 where
+pub record SavedList (h : Hall) (d : List ℕ) (r : Result ℕ Refusal) (t : List ℕ) : Type 0 where
   pub answer : r ≡ answer_of (saved_by Sound (length d) h)
   pub bytes : t ≡ after (saved_by Sound (length d) h) d

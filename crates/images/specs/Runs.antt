@@ -5,8 +5,8 @@ use Rattle.halls.specs.Calls.{Given, Call, add_model, add_geometry, remove_geome
 use Rattle.halls.specs.Every.{Each}
 use Rattle.halls.specs.State.{State, state_bytes}
 use Rattle.halls.specs.Step.{Step, stays, becomes, step, step_answer, Stepped}
-use Rattle.halls.specs.declared.answer.Answer.{Answer}
-use Rattle.halls.specs.declared.answer.Answer.TheVariants.{Accepted, Refused}
+use Rattle.std.specs.Prelude.{Result, Ok, Err}
+use Rattle.halls.specs.declared.answer.Refusal.{Refusal}
 use Rattle.vertices.specs.Declaration.{InWidth}
 
 -- ---- what the types of a call's arguments say
@@ -36,13 +36,13 @@ Fits (take_in s address) = Bytes s.system × Bytes s.graphics
 -- a call that was made: its answer, and the hall's buffer afterwards
 pub record Made : Type 0 where
   pub call : Call
-  pub answer : Answer
+  pub answer : Result ℕ Refusal
   pub left : List ℕ
 
 -- n after an answer
-abbrev pub next_n : ℕ → Answer → ℕ
-next_n n (Accepted m) = m
-next_n n (Refused r) = n
+abbrev pub next_n : ℕ → Result ℕ Refusal → ℕ
+next_n n (Ok m) = m
+next_n n (Err r) = n
 
 -- Each call got the buffer and n as the one before left them, and did what its contract says: `Stepped` of the call is what add_model, add_geometry,
 -- remove_geometry, remove_model, set_attribute, replace_indices and take_in of halls ensure.

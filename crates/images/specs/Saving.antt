@@ -5,9 +5,10 @@ use Rattle.halls.specs.Hall.{Hall}
 use Rattle.halls.specs.Outcome.{Outcome, refusal, written, answer_of, after}
 use Rattle.halls.specs.Parsing.{models_in}
 use Rattle.halls.specs.Records.{records}
-use Rattle.halls.specs.declared.answer.Answer.{Answer}
-use Rattle.halls.specs.declared.check.check.Verdict.{Verdict}
-use Rattle.halls.specs.declared.check.check.Verdict.TheVariants.{Sound, Fails}
+use Rattle.std.specs.Prelude.{Result}
+use Rattle.halls.specs.declared.answer.Refusal.{Refusal}
+use Rattle.halls.specs.Verdict.{Verdict}
+use Rattle.halls.specs.Verdict.{Sound, Fails}
 use Rattle.images.specs.Image.{image}
 
 -- the checks of a hall, then 20 with the needed bytes
@@ -19,6 +20,6 @@ unfoldable pub saved : List ℕ → ℕ → ℕ → Outcome
 saved b n room = saved_by (hall_verdict b n) room (models_in (records (take n b)))
 
 -- What save ensures of the hall's buffer b, its n, the image buffer d at entry, the answer r and the image buffer t at exit.
-pub record Saved (b : List ℕ) (n : ℕ) (d : List ℕ) (r : Answer) (t : List ℕ) : Type 0 where
+pub record Saved (b : List ℕ) (n : ℕ) (d : List ℕ) (r : Result ℕ Refusal) (t : List ℕ) : Type 0 where
   pub answer : r ≡ answer_of (saved b n (length d))
   pub bytes : t ≡ after (saved b n (length d)) d

@@ -16,68 +16,92 @@ pub fn put_header(out: &mut [u8], pointer: u64, count: u16)
     put_u16_le(out, 10, count);
 }
 
-// 0x30 bytes.
-pub fn put_model_block(
-    out: &mut [u8],
-    at: usize,
-    geometries: u64,
-    count: u16,
-    mapping: u64,
-    binding: u32,
-    mask: u16,
-)
-    requires { at + 0x30 ≤ length out.old }
-    ensures { out.new ≡ overwrite out.old at (model_block_bytes (record { geometries = geometries; count = count; mapping = mapping; binding = binding; mask = mask })) }
-{
-    zero(out, at, 0x30);
-    put_u64_le(out, at + 0x08, geometries);
-    put_u16_le(out, at + 0x10, count);
-    put_u64_le(out, at + 0x20, mapping);
-    put_u32_le(out, at + 0x28, binding);
-    put_u16_le(out, at + 0x2C, mask);
+// A model's, 0x30 bytes.
+#[derive(Clone, Copy)]
+pub struct ModelBlock {
+    pub geometries: u64,
+    pub count: u16,
+    pub mapping: u64,
+    pub binding: u32,
+    pub mask: u16,
 }
 
-// 0xA0 bytes: the block, and zeros up to a multiple of 16.
-pub fn put_geometry_block(
-    out: &mut [u8],
-    at: usize,
-    vertex_block: u64,
-    index_block: u64,
-    indices: u32,
-    triangles: u32,
-    vertices: u16,
-    stride: u16,
-)
-    requires { at + 0xA0 ≤ length out.old }
-    ensures { out.new ≡ overwrite out.old at (filled (geometry_block_bytes (record { vertex_block = vertex_block; index_block = index_block; indices = indices; triangles = triangles; vertices = vertices; stride = stride; inline = 0 }))) }
-{
-    zero(out, at, 0xA0);
-    put_u64_le(out, at + 0x18, vertex_block);
-    put_u64_le(out, at + 0x38, index_block);
-    put_u32_le(out, at + 0x58, indices);
-    put_u32_le(out, at + 0x5C, triangles);
-    put_u16_le(out, at + 0x60, vertices);
-    put_u16_le(out, at + 0x70, stride);
+impl ModelBlock {
+    pub fn put(self, out: &mut [u8], at: usize)
+        requires { at + 0x30 ≤ length out.old }
+        ensures { out.new ≡ overwrite out.old at (model_block_bytes (record { geometries = self.geometries; count = self.count; mapping = self.mapping; binding = self.binding; mask = self.mask })) }
+    {
+        zero(out, at, 0x30);
+        put_u64_le(out, at + 0x08, self.geometries);
+        put_u16_le(out, at + 0x10, self.count);
+        put_u64_le(out, at + 0x20, self.mapping);
+        put_u32_le(out, at + 0x28, self.binding);
+        put_u16_le(out, at + 0x2C, self.mask);
+    }
+}
+
+// A geometry's, 0xA0 bytes: the block, and zeros up to a multiple of 16.
+#[derive(Clone, Copy)]
+pub struct GeometryBlock {
+    pub vertex_block: u64,
+    pub index_block: u64,
+    pub indices: u32,
+    pub triangles: u32,
+    pub vertices: u16,
+    pub stride: u16,
+}
+
+impl GeometryBlock {
+    pub fn put(self, out: &mut [u8], at: usize)
+        requires { at + 0xA0 ≤ length out.old }
+        ensures { out.new ≡ overwrite out.old at (filled (geometry_block_bytes (record { vertex_block = self.vertex_block; index_block = self.index_block; indices = self.indices; triangles = self.triangles; vertices = self.vertices; stride = self.stride; inline = 0 }))) }
+    {
+        zero(out, at, 0xA0);
+        put_u64_le(out, at + 0x18, self.vertex_block);
+        put_u64_le(out, at + 0x38, self.index_block);
+        put_u32_le(out, at + 0x58, self.indices);
+        put_u32_le(out, at + 0x5C, self.triangles);
+        put_u16_le(out, at + 0x60, self.vertices);
+        put_u16_le(out, at + 0x70, self.stride);
+    }
 }
 
 // Legacy, 0x80 bytes.
-pub fn put_vertex_block(out: &mut [u8], at: usize, stride: u16, content: u64, count: u32, info: u64)
-    requires { at + 0x80 ≤ length out.old }
-    ensures { out.new ≡ overwrite out.old at (vertex_block_bytes (record { stride = stride; content = content; count = count; info = info })) }
-{
-    zero(out, at, 0x80);
-    put_u16_le(out, at + 0x08, stride);
-    put_u64_le(out, at + 0x10, content);
-    put_u32_le(out, at + 0x18, count);
-    put_u64_le(out, at + 0x30, info);
+#[derive(Clone, Copy)]
+pub struct VertexBlock {
+    pub stride: u16,
+    pub content: u64,
+    pub count: u32,
+    pub info: u64,
 }
 
-// 0x60 bytes, with two-byte indices.
-pub fn put_index_block(out: &mut [u8], at: usize, count: u32, items: u64)
-    requires { at + 0x60 ≤ length out.old }
-    ensures { out.new ≡ overwrite out.old at (index_block_bytes (record { count = count; size = 0; legacy = items; sized = 0 })) }
-{
-    zero(out, at, 0x60);
-    put_u32_le(out, at + 0x08, count);
-    put_u64_le(out, at + 0x10, items);
+impl VertexBlock {
+    pub fn put(self, out: &mut [u8], at: usize)
+        requires { at + 0x80 ≤ length out.old }
+        ensures { out.new ≡ overwrite out.old at (vertex_block_bytes (record { stride = self.stride; content = self.content; count = self.count; info = self.info })) }
+    {
+        zero(out, at, 0x80);
+        put_u16_le(out, at + 0x08, self.stride);
+        put_u64_le(out, at + 0x10, self.content);
+        put_u32_le(out, at + 0x18, self.count);
+        put_u64_le(out, at + 0x30, self.info);
+    }
+}
+
+// Of two-byte indices, 0x60 bytes.
+#[derive(Clone, Copy)]
+pub struct IndexBlock {
+    pub count: u32,
+    pub items: u64,
+}
+
+impl IndexBlock {
+    pub fn put(self, out: &mut [u8], at: usize)
+        requires { at + 0x60 ≤ length out.old }
+        ensures { out.new ≡ overwrite out.old at (index_block_bytes (record { count = self.count; size = 0; legacy = self.items; sized = 0 })) }
+    {
+        zero(out, at, 0x60);
+        put_u32_le(out, at + 0x08, self.count);
+        put_u64_le(out, at + 0x10, self.items);
+    }
 }

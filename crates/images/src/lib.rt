@@ -4,6 +4,7 @@
 mod blocks;
 mod geometry;
 mod indices;
+mod items;
 mod model;
 mod parts;
 mod saving;

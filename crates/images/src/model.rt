@@ -1,35 +1,41 @@
 // The models of a hall, as parts of the image.
 ghost use Rattle.std.specs.Prelude.{◌≡◌, ◌+◌, ◌≤◌, length};
 ghost use Rattle.sections.specs.Edit.{overwrite};
+ghost use Rattle.halls.specs.Checks.{geometry_count};
 ghost use Rattle.halls.specs.Fronts.{entries_at};
 ghost use Rattle.halls.specs.ImageSize.{model_size};
 ghost use Rattle.images.specs.Fronts.{front_model, model_length, model_numbers, models_from, image_limit, Room, ModelsRoomBehind, WrittenModel, with_items};
 ghost use Rattle.images.specs.Image.{model_block_bytes, model_image};
 
-use crate::blocks::put_model_block;
+use crate::blocks::ModelBlock;
 use crate::geometry::put_geometries;
-use crate::parts::{Measured, address_of, padded, pointer_to, put_copy, put_gap};
+use crate::items::{Item, put_items};
+use crate::parts::{Measured, padded, pointer_to, put_copy};
 use halls::entries_of;
-use sections::{put_u64_le, u16_le, u32_le};
+use sections::{u16_le, u32_le};
+
+pub struct Model;
+
+impl Item for Model {
+    ghost len = { model_length };
+
+    ghost size = { λ s. model_size (front_model s) };
+
+    ghost image = { λ at s. model_image at (front_model s) };
+
+    ghost few = { λ k s. geometry_count (models_from k s) ≤ 16384 };
+
+    fn put(out: &mut [u8], at: usize, front: &[u8]) -> Measured {
+        put_model(out, at, front)
+    }
+}
 
 // k models from the front of the list on, and their addresses, as parts of the image.
 pub fn put_models(out: &mut [u8], table: usize, at: usize, list: &[u8], k: usize)
     requires { ModelsRoomBehind k list.now table at out.old }
     ensures { out.new ≡ with_items model_size model_image out.old table at (models_from k list.now) }
 {
-    let mut left = k;
-    let mut place = 0;
-    let mut next = at;
-    let mut entry = table;
-    while 0 < left {
-        put_u64_le(out, entry, address_of(next));
-        let m = put_model(out, next, &list[place..]);
-        place += m.length;
-        next += m.size;
-        entry += 8;
-        left -= 1;
-    }
-    put_gap(out, table, 8 * k);
+    put_items::<Model>(out, table, at, list, k);
 }
 
 // The model at the front, and its geometries.
@@ -55,13 +61,12 @@ fn put_model_numbers(out: &mut [u8], at: usize, front: &[u8], entries: usize, ma
     requires { (at + 0x30 ≤ length out.old) × (at + 0x30 ≤ image_limit) × (mapping ≤ image_limit) × (entries ≤ 16384) }
     ensures { out.new ≡ overwrite out.old at (model_block_bytes (model_numbers at entries mapping front.now)) }
 {
-    put_model_block(
-        out,
-        at,
-        pointer_to(entries, at + 0x30),
-        entries as u16,
-        pointer_to(entries, mapping),
-        u32_le(front, 6),
-        u16_le(front, 10),
-    );
+    let block = ModelBlock {
+        geometries: pointer_to(entries, at + 0x30),
+        count: entries as u16,
+        mapping: pointer_to(entries, mapping),
+        binding: u32_le(front, 6),
+        mask: u16_le(front, 10),
+    };
+    block.put(out, at);
 }

@@ -18,7 +18,7 @@ pub fn padded(n: usize) -> usize
     requires { n ≤ 2 ^ 60 }
     ensures { result ≡ size.padded n }
 {
-    (n + 15) / 16 * 16
+    n.next_multiple_of(16)
 }
 
 // The address of what lies at an offset in the image.

@@ -9,31 +9,29 @@ ghost use Rattle.images.specs.Saving.{Saved};
 use crate::blocks::put_header;
 use crate::model::put_models;
 use crate::parts::{padded, pointer_to};
-use halls::{Answer, HallSize, Refusal, hall_size};
+use halls::{HallSize, Refusal, hall_size};
 
 // The image of the hall in the first n bytes of `hall`, over the first bytes of `out`.
-pub fn save(hall: &[u8], n: usize, out: &mut [u8]) -> Answer
+pub fn save(hall: &[u8], n: usize, out: &mut [u8]) -> Result<u64, Refusal>
     ensures { Saved hall.now n out.old result out.new }
 {
-    match hall_size(hall, n) {
-        HallSize::Sized(models, size) => save_list(&hall[..n], out, models, size),
-        HallSize::Unsound(check) => Answer::Refused(Refusal { check, needed: 0 }),
-    }
+    let size = hall_size(hall, n)?;
+    save_list(&hall[..n], out, size)
 }
 
 // Of a sound list with its models and its image's bytes: check 20, and the image.
-fn save_list(list: &[u8], out: &mut [u8], models: usize, size: usize) -> Answer
-    requires { (SoundList list.now) × (models ≡ model_count list.now) × (size ≡ image_size (hall_of_list list.now)) }
+fn save_list(list: &[u8], out: &mut [u8], size: HallSize) -> Result<u64, Refusal>
+    requires { (SoundList list.now) × (size.models ≡ model_count list.now) × (size.bytes ≡ image_size (hall_of_list list.now)) }
     ensures { SavedList (hall_of_list list.now) out.old result out.new }
 {
-    if out.len() < size {
-        return Answer::Refused(Refusal {
+    if out.len() < size.bytes {
+        return Err(Refusal {
             check: 20,
-            needed: size as u64,
+            needed: size.bytes as u64,
         });
     }
-    put_image(out, list, models);
-    Answer::Accepted(size as u64)
+    put_image(out, list, size.models);
+    Ok(size.bytes as u64)
 }
 
 // The whole: header, model pointers, models.

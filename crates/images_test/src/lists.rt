@@ -1,144 +1,148 @@
 // Rows of lists of calls. In each, a is the number of its list and b its own in there. A call gets the buffers and n as the row before left them.
-use halls::Answer;
-use replay::{accepted, answered, called_first, nothing, refused};
+use halls::Refusal;
+use replay::{Call, accepted, answered, called_first, nothing, refused};
+use sections::ResReader;
+use std::fmt;
 use std::io::{self, Write};
-use testing::{Row, bytes, fill, first, numbers, rest, text};
+use testing::{Row, bytes, fill, first, numbers, rest};
 
-// The first `room` bytes of the hall's buffer are lent, and the first n of those are the hall; `more` is whether there was a row.
+// What a row asks for.
 #[derive(Clone, Copy)]
-pub struct Stand {
-    pub room: usize,
-    pub n: usize,
-    pub more: bool,
+enum Asked {
+    // A list starts, with n = c and d bytes lent: patterns in both buffers, and the row's bytes over the beginning of the hall's.
+    List,
+    Call(Call),
+    // At address c, of sections that are the row's bytes, the first d of them the system section.
+    TakeIn,
+    // Into the first c bytes of the image buffer.
+    Save,
+    // At address c, of the first d bytes of the image buffer, without a graphics section.
+    TakeInImage,
+    Unknown,
 }
 
-fn named(out: &mut impl Write, kind: u64) -> io::Result<()> {
-    match kind {
-        0 => text(out, b"list"),
-        5 => text(out, b"add model"),
-        6 => text(out, b"remove model"),
-        7 => text(out, b"remove geometry"),
-        8 => text(out, b"set attribute"),
-        11 => text(out, b"replace indices"),
-        12 => text(out, b"add geometry"),
-        13 => text(out, b"take in"),
-        14 => text(out, b"save"),
-        15 => text(out, b"take in the image"),
-        _ => text(out, b"unknown"),
+impl From<u64> for Asked {
+    fn from(kind: u64) -> Self {
+        match kind {
+            0 => Asked::List,
+            13 => Asked::TakeIn,
+            14 => Asked::Save,
+            15 => Asked::TakeInImage,
+            _ => Call::try_from(kind).map_or(Asked::Unknown, Asked::Call),
+        }
     }
 }
 
-// A list starts, with n = c and d bytes lent: patterns in both buffers, and the row's bytes over the beginning of the hall's.
-fn begin(
-    out: &mut impl Write,
-    hall: &mut [u8],
-    image: &mut [u8],
-    row: Row,
-    data: &[u8],
-) -> io::Result<Stand> {
-    let seed = (row.e % 256) as u8;
-    fill(hall, seed);
-    fill(image, seed);
-    sections::copy_into(hall, 0, data);
-    text(out, b"\n")?;
-    Ok(Stand {
-        room: row.d as usize,
-        n: row.c as usize,
-        more: true,
-    })
+impl fmt::Display for Asked {
+    fn fmt<W: fmt::Write>(&self, f: &mut fmt::Formatter<W>) -> fmt::Result {
+        match self {
+            Asked::List => write!(f, "list"),
+            Asked::Call(call) => write!(f, "{call}"),
+            Asked::TakeIn => write!(f, "take in"),
+            Asked::Save => write!(f, "save"),
+            Asked::TakeInImage => write!(f, "take in the image"),
+            Asked::Unknown => write!(f, "unknown"),
+        }
+    }
+}
+
+// The buffers, and where a list stands: the first `room` bytes of the hall's buffer are lent, and the first n of those are the hall.
+#[derive(Drop)]
+pub struct Bench {
+    pub hall: [u8; 4096],
+    pub image: [u8; 16384],
+    pub room: usize,
+    pub n: usize,
 }
 
 // take_in, behind the header at `va`.
-fn taken_in(hall: &mut [u8], stand: Stand, system: &[u8], graphics: &[u8], va: u64) -> Answer {
-    let room = stand.room;
+fn taken_in(
+    hall: &mut [u8],
+    room: usize,
+    n: usize,
+    reader: &ResReader,
+    va: u64,
+) -> Result<u64, Refusal> {
     if room <= hall.len() {
-        return halls::take_in(&mut hall[..room], stand.n, system, graphics, va);
+        return halls::take_in(&mut hall[..room], n, reader, va);
     }
     nothing()
 }
 
-// take_in at address c, of sections that are the row's bytes, the first d of them the system section; of the first d bytes of the image buffer, without a
-// graphics section; or another call.
-fn called(hall: &mut [u8], image: &[u8], stand: Stand, row: Row, data: &[u8]) -> Answer {
-    let cut = row.d as usize;
-    match row.kind {
-        13 => taken_in(hall, stand, first(data, cut), rest(data, cut), row.c),
-        15 => taken_in(hall, stand, first(image, cut), first(image, 0), row.c),
-        _ => called_first(hall, stand.n, stand.room, row, data),
-    }
-}
-
-// n after an answer.
-fn next(n: usize, answer: Answer) -> usize {
-    match answer {
-        Answer::Accepted(length) => length as usize,
-        Answer::Refused(_) => n,
-    }
-}
-
-fn call_row(
-    out: &mut impl Write,
-    hall: &mut [u8],
-    image: &[u8],
-    stand: Stand,
-    row: Row,
-    data: &[u8],
-) -> io::Result<Stand> {
-    let answer = called(hall, image, stand, row, data);
-    answered(out, answer, hall)?;
-    Ok(Stand {
-        room: stand.room,
-        n: next(stand.n, answer),
-        more: true,
-    })
-}
-
-// save, into the first c bytes of the image buffer.
-fn saved(hall: &[u8], image: &mut [u8], stand: Stand, row: Row) -> Answer {
-    let room = row.c as usize;
+// save, into the first `room` bytes.
+fn saved_in(image: &mut [u8], room: usize, hall: &[u8], n: usize) -> Result<u64, Refusal> {
     if room <= image.len() {
-        return images::save(first(hall, stand.room), stand.n, &mut image[..room]);
+        return images::save(hall, n, &mut image[..room]);
     }
     nothing()
 }
 
-// The answer, the checksum of the whole image buffer, and the image where it has at most 576 bytes.
-fn save_row(
-    out: &mut impl Write,
-    hall: &[u8],
-    image: &mut [u8],
-    stand: Stand,
-    row: Row,
-) -> io::Result<()> {
-    match saved(hall, image, stand, row) {
-        Answer::Accepted(length) => {
-            accepted(out, length, image)?;
-            if length <= 576 {
-                bytes(out, first(image, length as usize))?;
-            }
-        }
-        Answer::Refused(refusal) => refused(out, refusal, image)?,
+impl Bench {
+    fn begin(&mut self, row: Row, data: &[u8]) {
+        let seed = (row.e % 256) as u8;
+        fill(&mut self.hall, seed);
+        fill(&mut self.image, seed);
+        sections::copy_into(&mut self.hall, 0, data);
+        self.room = row.d as usize;
+        self.n = row.c as usize;
     }
-    text(out, b"\n")
-}
 
-// What the row asks for, and where the list stands afterwards.
-pub fn run(
-    out: &mut impl Write,
-    hall: &mut [u8],
-    image: &mut [u8],
-    stand: Stand,
-    row: Row,
-    data: &[u8],
-) -> io::Result<Stand> {
-    named(out, row.kind)?;
-    numbers(out, row, 5)?;
-    match row.kind {
-        0 => begin(out, hall, image, row, data),
-        14 => {
-            save_row(out, hall, image, stand, row)?;
-            Ok(stand)
+    fn take_in(&mut self, row: Row, data: &[u8]) -> Result<u64, Refusal> {
+        let cut = row.d as usize;
+        let reader = ResReader::new(first(data, cut), rest(data, cut));
+        taken_in(&mut self.hall, self.room, self.n, &reader, row.c)
+    }
+
+    fn take_in_image(&mut self, row: Row) -> Result<u64, Refusal> {
+        let reader = ResReader::new(first(&self.image, row.d as usize), &[]);
+        taken_in(&mut self.hall, self.room, self.n, &reader, row.c)
+    }
+
+    fn save(&mut self, row: Row) -> Result<u64, Refusal> {
+        let hall = first(&self.hall, self.room);
+        saved_in(&mut self.image, row.c as usize, hall, self.n)
+    }
+
+    // n after an answer, and the line about it.
+    fn left(&mut self, out: &mut impl Write, answer: Result<u64, Refusal>) -> io::Result<()> {
+        if let Ok(length) = answer {
+            self.n = length as usize;
         }
-        _ => call_row(out, hall, image, stand, row, data),
+        answered(out, answer, &self.hall)
+    }
+
+    // The answer, the checksum of the whole image buffer, and the image where it has at most 576 bytes.
+    fn saved(&mut self, out: &mut impl Write, answer: Result<u64, Refusal>) -> io::Result<()> {
+        match answer {
+            Ok(length) => {
+                accepted(out, length, &self.image)?;
+                if length <= 576 {
+                    bytes(out, first(&self.image, length as usize))?;
+                }
+            }
+            Err(refusal) => refused(out, refusal, &self.image)?,
+        }
+        writeln!(out)
+    }
+
+    pub fn run(&mut self, out: &mut impl Write, row: Row, data: &[u8]) -> io::Result<()> {
+        let asked = Asked::from(row.kind);
+        write!(out, "{asked}")?;
+        numbers(out, row, 5)?;
+        let answer = match asked {
+            Asked::List => {
+                self.begin(row, data);
+                return writeln!(out);
+            }
+            Asked::Save => {
+                let answer = self.save(row);
+                return self.saved(out, answer);
+            }
+            Asked::Call(call) => called_first(call, &mut self.hall, self.n, self.room, row, data),
+            Asked::TakeIn => self.take_in(row, data),
+            Asked::TakeInImage => self.take_in_image(row),
+            Asked::Unknown => return writeln!(out),
+        };
+        self.left(out, answer)
     }
 }

@@ -1,30 +1,30 @@
 // Rows about component types, semantics and declarations.
 use crate::names;
 use std::io::{self, Write};
-use testing::{Row, bytes, done, first, number, numbers, text};
-use vertices::{
-    ComponentList, FoundComponent, VertexComponent, VertexComponentType, VertexDeclaration,
-    VertexSemantic,
-};
+use testing::{Row, bytes, done, first, numbers};
+use vertices::{VertexComponent, VertexComponentType, VertexDeclaration, VertexSemantic};
 
 // from_nibble of a, and what belongs to the type.
 pub fn type_row(out: &mut impl Write, row: Row) -> io::Result<()> {
     let t = VertexComponentType::from_nibble((row.a % 256) as u8);
-    text(out, b"type")?;
+    write!(out, "type")?;
     numbers(out, row, 1)?;
     names::component_type(out, t)?;
-    number(out, t.nibble() as u64)?;
-    number(out, t.size_in_bytes() as u64)?;
-    number(out, t.component_count() as u64)?;
-    text(out, b"\n")
+    writeln!(
+        out,
+        " {:x} {:x} {:x}",
+        t.nibble(),
+        t.size_in_bytes(),
+        t.component_count()
+    )
 }
 
 // from_index of a.
 pub fn semantic_row(out: &mut impl Write, row: Row) -> io::Result<()> {
-    text(out, b"semantic")?;
+    write!(out, "semantic")?;
     numbers(out, row, 1)?;
     names::semantic(out, VertexSemantic::from_index((row.a % 256) as u8))?;
-    text(out, b"\n")
+    writeln!(out)
 }
 
 // A declaration of these flags and types. The stored stride and count disagree with them, and are not to be looked at.
@@ -40,79 +40,69 @@ pub fn declared(flags: u64, types: u64) -> VertexDeclaration {
 
 // declaration_id, of flags a and types b.
 pub fn id_row(out: &mut impl Write, row: Row) -> io::Result<()> {
-    text(out, b"id")?;
+    write!(out, "id")?;
     numbers(out, row, 2)?;
-    number(out, declared(row.a, row.b).declaration_id())?;
-    text(out, b"\n")
+    writeln!(out, " {:x}", declared(row.a, row.b).declaration_id())
 }
 
 pub fn component(out: &mut impl Write, c: VertexComponent) -> io::Result<()> {
     names::semantic(out, c.semantic)?;
-    number(out, c.semantic_index as u64)?;
+    write!(out, " {:x}", c.semantic_index)?;
     names::component_type(out, c.component_type)?;
-    number(out, c.offset as u64)?;
-    number(out, c.size as u64)?;
-    number(out, c.component_count as u64)
-}
-
-fn component_list(out: &mut impl Write, list: ComponentList) -> io::Result<()> {
-    for c in list.items.iter().take(list.count) {
-        text(out, b",")?;
-        component(out, *c)?;
-    }
-    Ok(())
+    write!(out, " {:x} {:x} {:x}", c.offset, c.size, c.component_count)
 }
 
 // components, of flags a and types b.
 pub fn components_row(out: &mut impl Write, row: Row) -> io::Result<()> {
-    let list = declared(row.a, row.b).components();
-    text(out, b"components")?;
+    let components = declared(row.a, row.b).components();
+    write!(out, "components")?;
     numbers(out, row, 2)?;
-    number(out, list.count as u64)?;
-    component_list(out, list)?;
-    text(out, b"\n")
+    write!(out, " {:x}", components.len())?;
+    for c in components {
+        write!(out, ",")?;
+        component(out, c)?;
+    }
+    writeln!(out)
 }
 
 // component, of flags a and types b, at index c.
 pub fn component_row(out: &mut impl Write, row: Row) -> io::Result<()> {
-    text(out, b"component")?;
+    write!(out, "component")?;
     numbers(out, row, 3)?;
     match declared(row.a, row.b).component(row.c) {
-        FoundComponent::Component(c) => component(out, c)?,
-        FoundComponent::Missing => text(out, b" missing")?,
+        Some(c) => component(out, c)?,
+        None => write!(out, " missing")?,
     }
-    text(out, b"\n")
+    writeln!(out)
 }
 
 pub fn declaration(out: &mut impl Write, d: VertexDeclaration) -> io::Result<()> {
-    number(out, d.flags as u64)?;
-    number(out, d.stride as u64)?;
-    number(out, d.unknown_6h as u64)?;
-    number(out, d.count as u64)?;
-    number(out, d.types)
+    write!(
+        out,
+        " {:x} {:x} {:x} {:x} {:x}",
+        d.flags, d.stride, d.unknown_6h, d.count, d.types
+    )
 }
 
 // read_declaration, at offset a.
 pub fn read_row(out: &mut impl Write, row: Row, data: &[u8]) -> io::Result<()> {
-    text(out, b"read")?;
+    write!(out, "read")?;
     numbers(out, row, 1)?;
     declaration(out, vertices::read_declaration(data, row.a as usize))?;
-    text(out, b"\n")
+    writeln!(out)
 }
 
 // write_declaration, at offset a, in the first b bytes of a buffer of 64. The row holds the buffer, then the declaration.
 pub fn write_row(out: &mut impl Write, row: Row, data: &[u8]) -> io::Result<()> {
     let mut buffer = [0u8; 64];
-    text(out, b"write")?;
+    write!(out, "write")?;
     numbers(out, row, 2)?;
     sections::copy_into(&mut buffer, 0, first(data, 64));
     let d = vertices::read_declaration(data, 64);
-    done(
-        out,
-        write_first(&mut buffer, row.b as usize, row.a as usize, d),
-    )?;
+    let answer = write_first(&mut buffer, row.b as usize, row.a as usize, d);
+    write!(out, " {}", done(answer))?;
     bytes(out, &buffer)?;
-    text(out, b"\n")
+    writeln!(out)
 }
 
 // write_declaration in the first n bytes.
@@ -122,11 +112,11 @@ fn write_first(b: &mut [u8], n: usize, at: usize, d: VertexDeclaration) -> bool 
 
 // position_only, with stride a.
 pub fn position_only_row(out: &mut impl Write, row: Row) -> io::Result<()> {
-    text(out, b"position_only")?;
+    write!(out, "position_only")?;
     numbers(out, row, 1)?;
     declaration(
         out,
         VertexDeclaration::position_only((row.a % 65536) as u16),
     )?;
-    text(out, b"\n")
+    writeln!(out)
 }

@@ -11,9 +11,10 @@ mod names;
 mod unified;
 mod values;
 
-use std::io::{self, BufReader, BufWriter, Read, Write};
-use testing::{Row, first, read_first, read_full, row_in};
+use std::io::{self, BufReader, BufWriter, Write};
+use testing::{Row, each_row, row_data};
 
+// The one place that reads the kind's number: an enum would be a second table beside this one.
 fn run(out: &mut impl Write, row: Row, data: &[u8]) -> io::Result<()> {
     match row.kind {
         0 => declarations::type_row(out, row),
@@ -30,33 +31,18 @@ fn run(out: &mut impl Write, row: Row, data: &[u8]) -> io::Result<()> {
         11 => unified::unify_row(out, row, data),
         12 => encoding::encode_row(out, row, data),
         13 => unified::unify_many_row(out, row, data),
-        _ => testing::text(out, b"unknown row\n"),
+        _ => writeln!(out, "unknown row"),
     }
 }
 
-// Reads a row and runs it: seven little-endian numbers, the last of which is how many bytes follow, at most 512.
-// Answers false at the end of the input.
-fn run_one(input: &mut impl Read, out: &mut impl Write) -> io::Result<bool> {
-    let mut raw = [0u8; 56];
-    if read_full(input, &mut raw)? < 56 {
-        return Ok(false);
-    }
-    let count = sections::u64_le(&raw, 48) as usize;
-    let mut data = [0u8; 512];
-    read_first(input, &mut data, count)?;
-    run(out, row_in(&raw), first(&data, count))?;
-    Ok(true)
-}
-
-// The turns are counted, since nothing says that the input ends.
+// At most 512 bytes follow a row.
 fn main(rt: HostRuntime) -> io::Result<()> {
     let alloc = rt.alloc();
     let mut input = BufReader::new(alloc, rt.reader())?;
     let mut out = BufWriter::new(alloc, io::writer(&rt))?;
-    for _ in 0..u64::MAX {
-        if !run_one(&mut input, &mut out)? {
-            break;
-        }
-    }
+    each_row(&mut input, |input, row| {
+        let mut room = [0; 512];
+        run(&mut out, row, row_data(input, &mut room)?)
+    })?;
     out.flush()
 }

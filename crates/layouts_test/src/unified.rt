@@ -2,19 +2,19 @@
 use crate::buffers::{long_output, output};
 use crate::declarations::declared;
 use std::io::{self, Write};
-use testing::{Row, bytes, checksum, first, number, numbers, rest, text};
-use vertices::UnifyAnswer;
+use testing::{Row, bytes, checksum, first, numbers, rest};
+use vertices::UnifyError;
 
-fn answer(out: &mut impl Write, a: UnifyAnswer) -> io::Result<()> {
+fn answer(out: &mut impl Write, a: Result<u64, UnifyError>) -> io::Result<()> {
     match a {
-        UnifyAnswer::Written(n) => write!(out, " written {n:x}"),
-        UnifyAnswer::OutsideData => text(out, b" outside"),
-        UnifyAnswer::NeedsBytes(n) => write!(out, " needs {n:x}"),
+        Ok(n) => write!(out, " written {n:x}"),
+        Err(UnifyError::OutsideData) => write!(out, " outside"),
+        Err(UnifyError::NeedsBytes(n)) => write!(out, " needs {n:x}"),
     }
 }
 
 // unified_vertices into the first n bytes.
-fn unify_first(row: Row, data: &[u8], to: &mut [u8], n: usize) -> UnifyAnswer {
+fn unify_first(row: Row, data: &[u8], to: &mut [u8], n: usize) -> Result<u64, UnifyError> {
     if n <= to.len() {
         return vertices::unified_vertices(
             data,
@@ -24,28 +24,28 @@ fn unify_first(row: Row, data: &[u8], to: &mut [u8], n: usize) -> UnifyAnswer {
             &mut to[..n],
         );
     }
-    UnifyAnswer::NeedsBytes(0)
+    Err(UnifyError::NeedsBytes(0))
 }
 
 // unified_vertices, of data with stride a and b vertices, by a declaration of flags c and types d, into an output of e bytes,
 // at most 512. Prints the checksum of all 512 bytes that the output was lent of, and its first 100 bytes.
 pub fn unify_row(out: &mut impl Write, row: Row, data: &[u8]) -> io::Result<()> {
     let mut to = output();
-    text(out, b"unify")?;
+    write!(out, "unify")?;
     numbers(out, row, 5)?;
     answer(out, unify_first(row, data, &mut to, row.e as usize))?;
-    number(out, checksum(&to))?;
+    write!(out, " {:x}", checksum(&to))?;
     bytes(out, first(&to, 100))?;
-    text(out, b"\n")
+    writeln!(out)
 }
 
 // unified_vertices as above, into an output of several blocks of vertices. Prints the checksum of all its bytes, and its last 88 bytes.
 pub fn unify_many_row(out: &mut impl Write, row: Row, data: &[u8]) -> io::Result<()> {
     let mut to = long_output();
-    text(out, b"unify many")?;
+    write!(out, "unify many")?;
     numbers(out, row, 4)?;
     answer(out, unify_first(row, data, &mut to, 12352))?;
-    number(out, checksum(&to))?;
+    write!(out, " {:x}", checksum(&to))?;
     bytes(out, rest(&to, 12264))?;
-    text(out, b"\n")
+    writeln!(out)
 }

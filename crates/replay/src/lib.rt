@@ -4,5 +4,5 @@
 mod calls;
 mod lines;
 
-pub use calls::called_first;
+pub use calls::{Call, called_first};
 pub use lines::{accepted, answered, nothing, refused};

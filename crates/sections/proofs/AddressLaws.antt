@@ -1,9 +1,8 @@
 -- Laws of the lookup.
+use Rattle.std.specs.Prelude.{Option, None, Some, unwrap_or, option_and_then}
 use mathlib.Core.Path.{◌≡◌, refl, sym, subst, ◌∙◌}
 use mathlib.Core.Bool.{Bool, true, false, cond, ◌&&◌}
 use mathlib.Core.List.{List, []}
-use mathlib.Core.Logic.{◌⊎◌, inl, inr}
-use mathlib.Core.Option.{Option, none, some, get_or}
 use Prim.Native.Nat.{ℕ, ◌+◌, ◌-◌, ◌/◌, ◌%◌, ◌^◌, ◌≤◌, ◌<◌}
 use native.Mathlib.Omega.{arith}
 use borrow.Author.Tests.{eq-eqb, ne_eqb, eqb-true, leb-true}
@@ -11,9 +10,10 @@ use lib.Dec.{T, eqb, leb}
 use lib.ListN.{length}
 use Rattle.sections.specs.Edit.{part, fits}
 use Rattle.sections.specs.Address.{Sections, bit, both_set, within, located, part_of, range_of, resolved, within_limit}
+use Rattle.std.proofs.lemmas.Option.{same_Some}
 use Rattle.sections.proofs.EditLaws.{part_length}
 use Rattle.sections.specs.declared.lookup.Located.{Located}
-use Rattle.sections.specs.declared.lookup.Located.TheVariants.{System, Graphics, Nothing}
+use Rattle.sections.specs.declared.lookup.Located.TheVariants.{System, Graphics}
 
 -- ---- check 1
 
@@ -51,7 +51,7 @@ not-both_set j k x h = not-both (eqb (bit j x) 1) (eqb (bit k x) 1) (bit j x) (b
 -- ---- where an address points, case by case
 
 module _ (s : Sections) (va n : ℕ) where
-  pub located-zero : va ≡ 0 → located s va n ≡ Nothing
+  pub located-zero : va ≡ 0 → located s va n ≡ None
   unfolding located
   located-zero e = rw (eq-eqb va 0 e)
 
@@ -63,79 +63,89 @@ module _ (s : Sections) (va n : ℕ) where
   unfolding located
   located-system z g y = rw (ne_eqb va 0 z, not-both_set 30 29 va g, both_set_lem 30 28 va y)
 
-  pub located-nowhere : (va ≡ 0 → ⊥) → (bit 30 va + bit 29 va ≡ 2 → ⊥) → (bit 30 va + bit 28 va ≡ 2 → ⊥) → located s va n ≡ Nothing
+  pub located-nowhere : (va ≡ 0 → ⊥) → (bit 30 va + bit 29 va ≡ 2 → ⊥) → (bit 30 va + bit 28 va ≡ 2 → ⊥) → located s va n ≡ None
   unfolding located
   located-nowhere z g y = rw (ne_eqb va 0 z, not-both_set 30 29 va g, not-both_set 30 28 va y)
 
 -- ---- the bytes behind an address
 
-found_at : (t : Bool) (x b : List ℕ) → cond t (some x) none ≡ some b → (t ≡ true) × (x ≡ b)
+found_at : (t : Bool) (x b : List ℕ) → cond t (Some x) None ≡ Some b → (t ≡ true) × (x ≡ b)
 found_at true x b e = (refl, cc)
 found_at false x b e = let z : ◌≡◌ {A = ℕ} 0 1 = cc in absurd (omega arith)
 
-part_of-length : (s : List ℕ) (at n : ℕ) (b : List ℕ) → part_of s at n ≡ some b → length b ≡ n
+part_of-length : (s : List ℕ) (at n : ℕ) (b : List ℕ) → part_of s at n ≡ Some b → length b ≡ n
 unfolding part_of
 part_of-length s at n b e =
     let p = found_at (fits s at n) (part s at n) b e in
     rw (← p.1) (part_length s at n (leb-true (at + n) (length s) p.0))
 
-range_length : (s : Sections) (place : Located) (n : ℕ) (b : List ℕ) → range_of s place n ≡ some b → length b ≡ n
+range_length : (s : Sections) (place : Located) (n : ℕ) (b : List ℕ) → range_of s place n ≡ Some b → length b ≡ n
 range_length s (System at) n b e = part_of-length s.system at n b e
 range_length s (Graphics at) n b e = part_of-length s.graphics at n b e
-range_length s Nothing n b e = let z : ◌≡◌ {A = ℕ} 0 1 = cc in absurd (omega arith)
+
+located-bytes : (s : Sections) (n : ℕ) (o : Option Located) (b : List ℕ) → option_and_then (λ (place : Located). range_of s place n) o ≡ Some b → length b ≡ n
+located-bytes s n None b e = let z : ◌≡◌ {A = ℕ} 0 1 = cc in absurd (omega arith)
+located-bytes s n (Some place) b e = range_length s place n b e
 
 -- there are as many as were asked for
-pub resolved-length : (s : Sections) (va n : ℕ) (b : List ℕ) → resolved s va n ≡ some b → length b ≡ n
+pub resolved-length : (s : Sections) (va n : ℕ) (b : List ℕ) → resolved s va n ≡ Some b → length b ≡ n
 unfolding resolved
-resolved-length s va n b e = range_length s (located s va n) n b e
+resolved-length s va n b e = located-bytes s n (located s va n) b e
 
-whole : (o : Option (List ℕ)) (n : ℕ) → ((b : List ℕ) → o ≡ some b → length b ≡ n) → 0 < n → n ≤ length (get_or o []) → o ≡ some (get_or o [])
-whole none n f p h = absurd (omega arith)
-whole (some b) n f p h = refl
+whole : (o : Option (List ℕ)) (n : ℕ) → ((b : List ℕ) → o ≡ Some b → length b ≡ n) → 0 < n → n ≤ length (unwrap_or o []) → o ≡ Some (unwrap_or o [])
+whole None n f p h = absurd (omega arith)
+whole (Some b) n f p h = refl
 
-short : (o : Option (List ℕ)) (n : ℕ) → ((b : List ℕ) → o ≡ some b → length b ≡ n) → length (get_or o []) < n → o ≡ none
-short none n f h = refl
-short (some b) n f h = absurd (omega (arith, f b refl))
+short : (o : Option (List ℕ)) (n : ℕ) → ((b : List ℕ) → o ≡ Some b → length b ≡ n) → length (unwrap_or o []) < n → o ≡ None
+short None n f h = refl
+short (Some b) n f h = absurd (omega (arith, f b refl))
 
--- so the length of the slice tells whether they resolved
+-- so, of a slice that is empty where they did not, the length tells whether they resolved
 module _ (s : Sections) (va n : ℕ) where
-  pub resolved-whole : 0 < n → n ≤ length (get_or (resolved s va n) []) → resolved s va n ≡ some (get_or (resolved s va n) [])
+  pub resolved-whole : 0 < n → n ≤ length (unwrap_or (resolved s va n) []) → resolved s va n ≡ Some (unwrap_or (resolved s va n) [])
   resolved-whole p h = whole (resolved s va n) n (resolved-length s va n) p h
 
-  pub resolved-short : length (get_or (resolved s va n) []) < n → resolved s va n ≡ none
+  pub resolved-short : length (unwrap_or (resolved s va n) []) < n → resolved s va n ≡ None
   resolved-short h = short (resolved s va n) n (resolved-length s va n) h
 
 -- ---- a place that was found has its bytes
 
-by_tests : (P : Located → Type 0) {x y : Located} (zero graphics system : Bool) → P Nothing → P x → P y → P (cond zero Nothing (cond graphics x (cond system y Nothing)))
+by_tests : (P : Option Located → Type 0) {x y : Option Located} (zero graphics system : Bool) → P None → P x → P y → P (cond zero None (cond graphics x (cond system y None)))
 by_tests P true graphics system p q r = p
 by_tests P false true system p q r = q
 by_tests P false false true p q r = r
 by_tests P false false false p q r = p
 
 -- what holds of nothing and of a range in each section holds of wherever an address points
-pub located-elim : (P : Located → Type 0) (s : Sections) (va n : ℕ) → P Nothing → P (within Graphics s.graphics (va - 0x60000000) n) → P (within System s.system (va - 0x50000000) n)
+pub located-elim : (P : Option Located → Type 0) (s : Sections) (va n : ℕ) → P None → P (within Graphics s.graphics (va - 0x60000000) n) → P (within System s.system (va - 0x50000000) n)
     → P (located s va n)
 unfolding located
 located-elim P s va n p q r = by_tests P (eqb va 0) (both_set 30 29 va) (both_set 30 28 va) p q r
 
--- nothing, or a place whose n bytes are there
+-- a place whose n bytes are there
 pub record HasBytes (s : Sections) (place : Located) (n : ℕ) : Type 0 where
   pub content : List ℕ
-  pub is : range_of s place n ≡ some content
+  pub is : range_of s place n ≡ Some content
   pub long : length content ≡ n
 
-HasBytes_lem : (s : Sections) (place : Located) (n : ℕ) (b : List ℕ) → range_of s place n ≡ some b → HasBytes s place n
+HasBytes_lem : (s : Sections) (place : Located) (n : ℕ) (b : List ℕ) → range_of s place n ≡ Some b → HasBytes s place n
 HasBytes_lem s place n b e = record { content = b; is = e; long = range_length s place n b e }
 
-in-part : (s : Sections) (section : List ℕ) (make : ℕ → Located) → ((at n : ℕ) → range_of s (make at) n ≡ part_of section at n)
-    → (at n : ℕ) (t : Bool) → fits section at n ≡ t → (cond t (make at) Nothing ≡ Nothing) ⊎ HasBytes s (cond t (make at) Nothing) n
-unfolding part_of
-in-part s section make same at n true e = inr (HasBytes_lem s (make at) n (part section at n) (same at n ∙ rw e))
-in-part s section make same at n false e = inl refl
+-- so has each place that is found
+abbrev pub FindsBytes : Sections → ℕ → Option Located → Type 0
+FindsBytes s n o = (place : Located) → o ≡ Some place → HasBytes s place n
 
-pub located-found : (s : Sections) (va n : ℕ) → (located s va n ≡ Nothing) ⊎ HasBytes s (located s va n) n
+none-finds : (s : Sections) (n : ℕ) → FindsBytes s n None
+none-finds s n place e = let z : ◌≡◌ {A = ℕ} 0 1 = cc in absurd (omega arith)
+
+in-part : (s : Sections) (section : List ℕ) (make : ℕ → Located) → ((at n : ℕ) → range_of s (make at) n ≡ part_of section at n)
+    → (at n : ℕ) (t : Bool) → fits section at n ≡ t → FindsBytes s n (cond t (Some (make at)) None)
+unfolding part_of
+in-part s section make same at n true e place f = subst (λ p. HasBytes s p n) (same_Some _ _ f) (HasBytes_lem s (make at) n (part section at n) (same at n ∙ rw e))
+in-part s section make same at n false e place f = none-finds s n place f
+
+pub located-found : (s : Sections) (va n : ℕ) → FindsBytes s n (located s va n)
 located-found s va n =
-    located-elim (λ place. (place ≡ Nothing) ⊎ HasBytes s place n) s va n (inl refl)
+    located-elim (FindsBytes s n) s va n (none-finds s n)
     (in-part s s.graphics Graphics (λ at k. refl) (va - 0x60000000) n (fits s.graphics (va - 0x60000000) n) refl)
     (in-part s s.system System (λ at k. refl) (va - 0x50000000) n (fits s.system (va - 0x50000000) n) refl)

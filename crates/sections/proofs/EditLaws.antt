@@ -1,15 +1,19 @@
 -- Laws of `part` and `overwrite`, for every crate above.
 use mathlib.Core.Path.{◌≡◌, sym, ap, ◌∙◌}
-use mathlib.Core.Bool.{Bool, true, false}
+use mathlib.Core.Bool.{Bool, true, false, cond}
 use mathlib.Core.List.{List, [], ◌∷◌, ◌++◌, append_assoc, append-nil}
 use Prim.Native.Nat.{ℕ, zero, suc, ◌+◌, ◌-◌, ◌≤◌, ◌<◌}
+use denote.Ref.{Bor}
+use Rattle.std.specs.Prelude.{Option, Some, None, MatchOption, option_map}
+use Rattle.std.specs.Array.{IsFirstChunk}
 use native.Mathlib.Nat.{add_assoc, add-zero, zero-add}
 use native.Mathlib.Numerals.{add-one}
 use native.Mathlib.Omega.{arith}
 use borrow.Author.Tests.{le-leb}
 use lib.Dec.{lit<}
+use borrow.Rule.Slice.PartMut.{put_mid}
 use lib.ListN.{length, take, drop, get_or, set, length-append, length-take, length-drop, take-append-drop, drop_of_length-le}
-use lib.Seq.{length-take-le, append_snoc, take-nil, take-add, take-take, take_at, take-append-le, drop_at, drop-cons, drop-drop, drop-append-add, get_or-take, get_or-drop, set_split}
+use lib.Seq.{length-take-le, append_snoc, take-nil, take-add, take-take, take_all, take_at, take-append-le, drop_at, drop-cons, drop-drop, drop-append-add, get_or-take, get_or-drop, set_split}
 use Rattle.sections.specs.Edit.{part, overwrite, fits, Edited}
 
 -- ---- parts
@@ -45,6 +49,17 @@ module _ (s : List ℕ) where
   part-part at n i k h =
       let m : k ≤ n - i = omega arith in
       rw (drop-take i n (drop at s), take-take k (n - i) (drop i (drop at s)), drop-drop i at s)
+
+-- the first n of what is behind `at`, as the library's `first_chunk` finds them
+pub chunk-whole : (s : List ℕ) (at n : ℕ) (rest : List ℕ) (r : Option (Bor (List ℕ))) → at + n ≤ length s → rest ≡ part s at n
+    → MatchOption r (length rest < n) (λ y. IsFirstChunk rest y.now n) → option_map (λ (y : Bor (List ℕ)). y.now) r ≡ cond (fits s at n) (Some (part s at n)) None
+unfolding part
+chunk-whole s at n rest None h e m =
+    let l : length rest ≡ n = ap length e ∙ length-take-le n (drop at s) (rw length-drop (omega (arith, h))) in
+    absurd (omega (arith, l, m))
+chunk-whole s at n rest (Some y) h e m =
+    let l : length rest ≡ n = ap length e ∙ length-take-le n (drop at s) (rw length-drop (omega (arith, h))) in
+    rw (le-leb (at + n) (length s) h) (ap Some (m.same ∙ take_all n rest (omega (arith, l)) ∙ e))
 
 -- the first elements of bytes are bytes, and so is each part
 pub take_below : (n : ℕ) (l : List ℕ) → ((i : ℕ) → get_or l i 0 < 256) → (i : ℕ) → get_or (take n l) i 0 < 256
@@ -108,6 +123,13 @@ module _ (s : List ℕ) (at : ℕ) (vs : List ℕ) (fit : at + length vs ≤ len
       let e : j ≡ at + length vs + m = omega arith in
       let f : j ≡ length (take at s ++ vs) + m = rw head-length e in
       ap (take k) (ap (λ (i : ℕ). drop i (overwrite s at vs)) f ∙ drop-append-add (take at s ++ vs) _ m ∙ drop-drop m (at + length vs) s ∙ ap (λ (i : ℕ). drop i s) (sym e))
+
+-- a write to a part of a slice, as by `copy_from_slice` or `fill`
+pub overwrite-slice : (s : List ℕ) (at n : ℕ) (vs : List ℕ) → length vs ≡ n → put_mid at (at + n - at) s vs ≡ overwrite s at vs
+unfolding overwrite
+overwrite-slice s at n vs e =
+    let k : at + n - at ≡ length vs = omega arith in
+    rw (k, drop-drop (length vs) at s) (sym (append_assoc (take at s) vs _))
 
 -- bytes, and then bytes behind them
 pub overwrite-then : (s : List ℕ) (at n : ℕ) (xs ys : List ℕ) → length xs ≡ n → at + n + length ys ≤ length s

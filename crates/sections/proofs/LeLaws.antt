@@ -3,8 +3,13 @@ use mathlib.Core.Path.{◌≡◌, refl, sym, ap, ◌∙◌}
 use mathlib.Core.Bool.{Bool, true, false, cond}
 use mathlib.Core.List.{List, [], ◌∷◌, ◌++◌}
 use Prim.Native.Nat.{ℕ, zero, suc, ◌+◌, ◌*◌, ◌/◌, ◌%◌, ◌^◌, ◌≤◌, ◌<◌}
+use Rattle.std.specs.Int.{bytes_low_first}
+use Rattle.std.specs.Prelude.{Option, Some, None, MatchOption}
 use native.Mathlib.Nat.{mul_assoc, pow-suc, pow-succ', pow-zero, div-div-eq-div-mul, zero-add, suc-add, div-one, one-le-pow}
 use native.Mathlib.Omega.{arith}
+use Rattle.std.proofs.Common.{inl, inr}
+use Rattle.std.proofs.lemmas.Bool.{cases_lt}
+use Rattle.std.proofs.lemmas.List.{get_or_past}
 use borrow.Author.Tests.{le-leb, lt-leb, leb-true}
 use lib.Arith.{mod-mul, digits_mod, digits_div}
 use lib.Dec.{lit<}
@@ -122,6 +127,10 @@ field_bound k s at f = whether (fits s at k) refl
 pub field-one : (s : List ℕ) (at : ℕ) → at < length s → field 1 s at ≡ get_or s at 0
 field-one s at h = field_in 1 s at (omega arith) ∙ le-one s at h
 
+-- one that does not fit is 0, as an element that is not there
+pub field-byte : (s : List ℕ) (at : ℕ) → field 1 s at ≡ get_or s at 0
+field-byte s at = elim (cases_lt at (length s)) [ inl h ↦ field-one s at h | inr h ↦ field_out 1 s at (omega arith) ∙ sym (get_or_past s at 0 h) ]
+
 -- one store
 pub one_store : (s : List ℕ) (at v : ℕ) → at < length s → v < 256 → set s at v ≡ overwrite s at (bytes 1 v)
 unfolding bytes
@@ -143,3 +152,31 @@ pub overwrite-bytes : (n m : ℕ) (s : List ℕ) (at v : ℕ) → at + (n + m) �
     → overwrite (overwrite s at (bytes n (v % 256 ^ n))) (at + n) (bytes m (v / 256 ^ n)) ≡ overwrite s at (bytes (n + m) v)
 overwrite-bytes n m s at v h =
     rw (overwrite-then s at n (bytes n (v % 256 ^ n)) (bytes m (v / 256 ^ n)) (length-bytes n _) (rw length-bytes (omega arith)), bytes_low, bytes-add)
+
+-- ---- the library's words on bytes
+
+-- the k bytes of a number from byte i on
+pub low_first-is : (i k v : ℕ) → bytes_low_first i k v ≡ bytes k (v / 256 ^ i)
+unfolding bytes
+low_first-is i zero v = refl
+low_first-is zero (suc k) v = rw (pow-zero, div-one) (ap (λ (l : List ℕ). v % 256 ∷ l) (low_first-is 1 k v ∙ ap (bytes k) (ap (λ (n : ℕ). v / n) refl)))
+low_first-is (suc i) (suc k) v =
+    let e : v / 256 ^ suc (suc i) ≡ v / 256 ^ suc i / 256 = rw (pow-suc, ← div-div-eq-div-mul) refl in
+    ap (λ (l : List ℕ). v / 256 ^ suc i % 256 ∷ l) (low_first-is (suc (suc i)) k v ∙ ap (bytes k) e)
+
+pub to_le-is : (k v : ℕ) → bytes_low_first 0 k v ≡ bytes k v
+to_le-is k v = low_first-is 0 k v ∙ ap (bytes k) (rw (pow-zero) (div-one v))
+
+-- the number that bytes were made of is what they say
+pub le-from : (k v : ℕ) (bs : List ℕ) → v < 256 ^ k → bytes_low_first 0 k v ≡ bs → v ≡ le bs
+le-from k v bs h e = sym (le_bytes k v h) ∙ ap le (sym (to_le-is k v) ∙ e)
+
+-- a reader that takes the k bytes, where they end inside s, for the number that they say, and else 0
+pub field_by : (k : ℕ) (s : List ℕ) (at r : ℕ) (o : Option (List ℕ)) (P : List ℕ → Type 0) → o ≡ cond (fits s at k) (Some (part s at k)) None → MatchOption o (r ≡ 0) P
+    → (at + k ≤ length s → P (part s at k) → r ≡ le (part s at k)) → r ≡ field k s at
+unfolding field
+field_by k s at r o P e m f = whether (fits s at k) refl (rw e at m)
+  where
+    whether : (t : Bool) → fits s at k ≡ t → MatchOption (cond t (Some (part s at k)) None) (r ≡ 0) P → r ≡ cond t (le (part s at k)) 0
+    whether true e m = f (leb-true (at + k) (length s) e) m
+    whether false e m = m

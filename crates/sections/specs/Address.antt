@@ -1,9 +1,9 @@
 -- Where an address points (document 01, "Sections").
+use Rattle.std.specs.Prelude.{Option, None, Some, option_and_then}
 use Rattle.std.specs.Prelude.{Bool, cond, ◌&&◌, List, ℕ, ◌-◌, ◌/◌, ◌%◌, ◌^◌, leb, eqb, length}
-use Rattle.std.proofs.Math.Option.{Option, none, some}
 use Rattle.sections.specs.Edit.{part, fits}
 use Rattle.sections.specs.declared.lookup.Located.{Located}
-use Rattle.sections.specs.declared.lookup.Located.TheVariants.{System, Graphics, Nothing}
+use Rattle.sections.specs.declared.lookup.Located.TheVariants.{System, Graphics}
 
 pub record Sections : Type 0 where
   pub system : List ℕ
@@ -25,27 +25,26 @@ unfoldable pub both_set : ℕ → ℕ → ℕ → Bool
 both_set j k x = eqb (bit j x) 1 && eqb (bit k x) 1
 
 -- a range that starts at an offset, if it ends inside a section
-abbrev pub within : (ℕ → Located) → List ℕ → ℕ → ℕ → Located
-within place s at n = cond (fits s at n) (place at) Nothing
+abbrev pub within : (ℕ → Located) → List ℕ → ℕ → ℕ → Option Located
+within place s at n = cond (fits s at n) (Some (place at)) None
 
 -- where the n bytes behind an address lie
-unfoldable pub located : Sections → ℕ → ℕ → Located
+unfoldable pub located : Sections → ℕ → ℕ → Option Located
 located s va n =
-    cond (eqb va 0) Nothing
+    cond (eqb va 0) None
     (cond (both_set 30 29 va) (within Graphics s.graphics (va - 0x60000000) n)
     (cond (both_set 30 28 va) (within System s.system (va - 0x50000000) n)
-    Nothing))
+    None))
 
 -- the n bytes of s from an offset on, if they end inside s
 unfoldable pub part_of : List ℕ → ℕ → ℕ → Option (List ℕ)
-part_of s at n = cond (fits s at n) (some (part s at n)) none
+part_of s at n = cond (fits s at n) (Some (part s at n)) None
 
 -- the n bytes of a place
 abbrev pub range_of : Sections → Located → ℕ → Option (List ℕ)
 range_of s (System at) n = part_of s.system at n
 range_of s (Graphics at) n = part_of s.graphics at n
-range_of s Nothing n = none
 
 -- the n bytes behind an address
 unfoldable pub resolved : Sections → ℕ → ℕ → Option (List ℕ)
-resolved s va n = range_of s (located s va n) n
+resolved s va n = option_and_then (λ (place : Located). range_of s place n) (located s va n)

@@ -7,13 +7,11 @@ mod fields;
 mod lists;
 mod lookup;
 mod range;
+mod reader;
 
 pub use edits::{copy_into, copy_within, zero};
 pub use fields::{put_u8_le, put_u16_le, put_u32_le, put_u64_le, u8_le, u16_le, u32_le, u64_le};
-pub use lists::{
-    FoundHeader, LocatedList, PointerListHeader, locate_list, read_pointer_list_header,
-};
-pub use lookup::{
-    GRAPHICS_BASE, Located, SECTION_LIMIT, SYSTEM_BASE, bytes_of, locate, resolve, within_limit,
-};
+pub use lists::{PointerListHeader, Unresolved};
+pub use lookup::{GRAPHICS_BASE, Located, SECTION_LIMIT, SYSTEM_BASE};
 pub use range::ends_inside;
+pub use reader::ResReader;

@@ -5,11 +5,5 @@ ghost use Rattle.std.specs.Prelude.{◌≡◌, ◌+◌, leb};
 pub fn ends_inside(at: usize, len: usize, size: usize) -> bool
     ensures { result ≡ leb (at + len) size }
 {
-    if size < len {
-        return false;
-    }
-    if size - len < at {
-        return false;
-    }
-    true
+    len <= size && at <= size - len
 }

@@ -1,37 +1,36 @@
 // The buffers that rows run on.
-ghost use Rattle.std.specs.Prelude.{◌≡◌, length};
+use sections::ResReader;
+use testing::{Row, first, pattern};
 
-use testing::fill;
-
-// A section; a row uses its first bytes.
-pub fn section(seed: u8) -> [u8; 64]
-    ensures { length result ≡ 64 }
-{
-    let mut b = [0u8; 64];
-    fill(&mut b, seed);
-    b
+// Two sections, and how many of the bytes of each a row uses.
+#[derive(Drop)]
+pub struct Sections {
+    system: [u8; 64],
+    graphics: [u8; 64],
+    sizes: [usize; 2],
 }
 
-// A section with two zeros at an offset, if they fit.
-pub fn section_with_gap(seed: u8, at: usize) -> [u8; 64]
-    ensures { length result ≡ 64 }
-{
-    let mut b = section(seed);
-    sections::zero(&mut b, at, 2);
-    b
-}
+impl Sections {
+    // Of the sizes a and b, at most 64.
+    pub fn of(row: Row) -> Self {
+        Self {
+            system: pattern(129),
+            graphics: pattern(65),
+            sizes: [row.a as usize, row.b as usize],
+        }
+    }
 
-fn zeros() -> [u8; 16640]
-    ensures { length result ≡ 16640 }
-{
-    [0; 16640]
-}
+    // Two zeros at an offset of both, where they fit.
+    pub fn with_gap(mut self, at: usize) -> Self {
+        sections::zero(&mut self.system, at, 2);
+        sections::zero(&mut self.graphics, at, 2);
+        self
+    }
 
-// Room for moves of more than three blocks of 4,096.
-pub fn long_buffer(seed: u8) -> [u8; 16640]
-    ensures { length result ≡ 16640 }
-{
-    let mut b = zeros();
-    fill(&mut b, seed);
-    b
+    pub fn reader(&self) -> ResReader<'_> {
+        ResReader::new(
+            first(&self.system, self.sizes[0]),
+            first(&self.graphics, self.sizes[1]),
+        )
+    }
 }

@@ -1,18 +1,20 @@
 // Rows about edits of a buffer of 16,640 bytes, of which the checksum afterwards is printed.
-use crate::buffers::long_buffer;
 use std::io::{self, Write};
-use testing::{Row, checksum, done, first, number, numbers, text};
+use testing::{Row, checksum, done, first, numbers, pattern};
+
+// Room for moves of more than three blocks of 4,096.
+fn long_buffer(seed: u8) -> [u8; 16640] {
+    pattern(seed)
+}
 
 fn finish(out: &mut impl Write, buffer: &[u8], answer: bool) -> io::Result<()> {
-    done(out, answer)?;
-    number(out, checksum(buffer))?;
-    text(out, b"\n")
+    writeln!(out, " {} {:x}", done(answer), checksum(buffer))
 }
 
 // copy_within, from a to b, of c bytes.
 pub fn copy_within_row(out: &mut impl Write, row: Row) -> io::Result<()> {
     let mut buffer = long_buffer(129);
-    text(out, b"copy_within")?;
+    write!(out, "copy_within")?;
     numbers(out, row, 3)?;
     let answer = sections::copy_within(&mut buffer, row.a as usize, row.b as usize, row.c as usize);
     finish(out, &buffer, answer)
@@ -22,7 +24,7 @@ pub fn copy_within_row(out: &mut impl Write, row: Row) -> io::Result<()> {
 pub fn copy_into_row(out: &mut impl Write, row: Row) -> io::Result<()> {
     let mut buffer = long_buffer(129);
     let src = long_buffer(65);
-    text(out, b"copy_into")?;
+    write!(out, "copy_into")?;
     numbers(out, row, 2)?;
     let answer = sections::copy_into(&mut buffer, row.a as usize, first(&src, row.b as usize));
     finish(out, &buffer, answer)
@@ -31,7 +33,7 @@ pub fn copy_into_row(out: &mut impl Write, row: Row) -> io::Result<()> {
 // zero, at a, of b bytes.
 pub fn zero_row(out: &mut impl Write, row: Row) -> io::Result<()> {
     let mut buffer = long_buffer(129);
-    text(out, b"zero")?;
+    write!(out, "zero")?;
     numbers(out, row, 2)?;
     let answer = sections::zero(&mut buffer, row.a as usize, row.b as usize);
     finish(out, &buffer, answer)

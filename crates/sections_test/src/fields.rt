@@ -1,26 +1,23 @@
 // Rows about little-endian fields: of width a, in a buffer of b bytes, at most 64, at offset c.
-use crate::buffers::section;
 use std::io::{self, Write};
-use testing::{Row, bytes, done, first, number, numbers, text};
+use testing::{Row, bytes, done, first, numbers, pattern};
 
+// Four types with functions of their own: a trait over them would be longer than these four lines, and than those of `write`.
 fn read(b: &[u8], width: u64, off: usize) -> u64 {
     match width {
-        1 => sections::u8_le(b, off) as u64,
-        2 => sections::u16_le(b, off) as u64,
-        4 => sections::u32_le(b, off) as u64,
+        1 => sections::u8_le(b, off).into(),
+        2 => sections::u16_le(b, off).into(),
+        4 => sections::u32_le(b, off).into(),
         _ => sections::u64_le(b, off),
     }
 }
 
 pub fn read_row(out: &mut impl Write, row: Row) -> io::Result<()> {
-    let buffer = section(129);
-    text(out, b"read")?;
+    let buffer: [u8; 64] = pattern(129);
+    write!(out, "read")?;
     numbers(out, row, 3)?;
-    number(
-        out,
-        read(first(&buffer, row.b as usize), row.a, row.c as usize),
-    )?;
-    text(out, b"\n")
+    let field = read(first(&buffer, row.b as usize), row.a, row.c as usize);
+    writeln!(out, " {field:x}")
 }
 
 fn write(b: &mut [u8], width: u64, off: usize, v: u64) -> bool {
@@ -39,13 +36,11 @@ fn write_first(b: &mut [u8], n: usize, width: u64, off: usize, v: u64) -> bool {
 
 // Writes the lowest bytes of d, and prints all 64 bytes of the buffer that the first b were lent of.
 pub fn write_row(out: &mut impl Write, row: Row) -> io::Result<()> {
-    let mut buffer = section(129);
-    text(out, b"write")?;
+    let mut buffer: [u8; 64] = pattern(129);
+    write!(out, "write")?;
     numbers(out, row, 4)?;
-    done(
-        out,
-        write_first(&mut buffer, row.b as usize, row.a, row.c as usize, row.d),
-    )?;
+    let answer = write_first(&mut buffer, row.b as usize, row.a, row.c as usize, row.d);
+    write!(out, " {}", done(answer))?;
     bytes(out, &buffer)?;
-    text(out, b"\n")
+    writeln!(out)
 }

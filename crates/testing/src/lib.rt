@@ -1,10 +1,12 @@
-// What the test programs share: rows, parts of buffers, and what a line is made of.
+// What the test programs share: rows and the values in them, parts of buffers, and what a line is made of.
 #![tactic(auto)]
 
 mod buffers;
 mod print;
 mod rows;
+mod values;
 
-pub use buffers::{checksum, fill, first, read_first, read_full, rest};
-pub use print::{bytes, done, number, text};
-pub use rows::{Row, numbers, row_in};
+pub use buffers::{checksum, fill, first, pattern, read_full, rest, zeros};
+pub use print::{bytes, done, place};
+pub use rows::{Row, each_row, numbers, row_data};
+pub use values::value_in;

@@ -1,27 +1,23 @@
 // What a line is made of.
+use sections::Located;
 use std::io::{self, Write};
 
-pub fn text(out: &mut impl Write, words: &[u8]) -> io::Result<()> {
-    out.write_all(words)
+// How a line about an edit says its answer.
+pub fn done(answer: bool) -> &'static str {
+    if answer { "done" } else { "refused" }
 }
 
-// A space and the number, in hexadecimal.
-pub fn number(out: &mut impl Write, n: u64) -> io::Result<()> {
-    write!(out, " {n:x}")
-}
-
-// How a line about an edit ends.
-pub fn done(out: &mut impl Write, answer: bool) -> io::Result<()> {
-    if answer {
-        text(out, b" done")
-    } else {
-        text(out, b" refused")
+// A section's name and the offset in it.
+pub fn place(out: &mut impl Write, p: Located) -> io::Result<()> {
+    match p {
+        Located::System(at) => write!(out, " system {at:x}"),
+        Located::Graphics(at) => write!(out, " graphics {at:x}"),
     }
 }
 
 // A space and the bytes, two digits each.
 pub fn bytes(out: &mut impl Write, b: &[u8]) -> io::Result<()> {
-    text(out, b" ")?;
+    write!(out, " ")?;
     for byte in b {
         write!(out, "{byte:02x}")?;
     }

@@ -1,9 +1,9 @@
 -- Laws of components: how many there are, where each lies, and which one a semantic's number finds.
+use Rattle.std.specs.Prelude.{Option, None, Some}
 use mathlib.Core.Path.{◌≡◌, refl, ◌∙◌}
 use mathlib.Core.Bool.{Bool, true, false, cond}
 use mathlib.Core.List.{List, [], ◌∷◌}
 use mathlib.Core.Logic.{⊎_elim}
-use mathlib.Core.Option.{Option, none, some}
 use Prim.Native.Nat.{ℕ, zero, suc, ◌+◌, ◌*◌, ◌-◌, ◌/◌, ◌%◌, ◌^◌, ◌≤◌, ◌<◌}
 use native.Mathlib.Nat.{add_assoc, add-zero, div-div-eq-div-mul, div-one, eq-zero-or-pos, pow-succ', zero-add}
 use native.Mathlib.Omega.{arith}
@@ -11,10 +11,16 @@ use borrow.Author.Tests.{eq-eqb, ne_eqb, eqb-true}
 use lib.Dec.{eqb}
 use lib.ListN.{length, get_or, take}
 use Rattle.vertices.specs.Types.{component_type_of, size_of}
-use Rattle.vertices.specs.Declaration.{component_at, component_of, components_from, components_of, empty_component, odd, position_only, sizes, total_size, with_index}
+use Rattle.vertices.specs.Declaration.{component_at, component_of, components_from, components_of, odd, position_only, sizes, total_size, with_index}
 use Rattle.vertices.specs.declared.types.VertexComponent.{VertexComponent}
+use Rattle.vertices.specs.declared.types.VertexComponentType.TheVariants.{Nothing}
+use Rattle.vertices.specs.declared.types.VertexSemantic.TheVariants.{Position}
 use Rattle.vertices.specs.declared.declaration.VertexDeclaration.{VertexDeclaration}
 use Rattle.vertices.proofs.TypeLaws.{size-bound}
+
+-- what stands for a component that there is not
+abbrev pub empty_component : VertexComponent
+empty_component = record { semantic = Position; semantic_index = 0; component_type = Nothing; offset = 0; size = 0; component_count = 0 }
 
 -- the i-th component
 abbrev pub item : List VertexComponent → ℕ → VertexComponent
@@ -46,7 +52,7 @@ Consecutive offset (c ∷ cs) = (c.offset ≡ offset) × Consecutive (offset + c
 
 -- each component's number is `index` or more and finds it
 abbrev Numbered : ℕ → List VertexComponent → Type 0
-Numbered index cs = (n : ℕ) → n < length cs → (index ≤ (item cs n).semantic_index) × (with_index (item cs n).semantic_index cs ≡ some (item cs n))
+Numbered index cs = (n : ℕ) → n < length cs → (index ≤ (item cs n).semantic_index) × (with_index (item cs n).semantic_index cs ≡ Some (item cs n))
 
 -- and so with one of a lower number in front
 Numbered-front : (index nibble offset : ℕ) (cs : List VertexComponent) → Numbered (index + 1) cs → Numbered index (component_at index nibble offset ∷ cs)
@@ -58,7 +64,7 @@ Numbered-front index nibble offset cs h (suc n) l =
 
 module _ (k index flags types offset : ℕ) where
   -- at most one for each flag
-  few-from : length (components_from k index flags types offset) ≤ k
+  pub few-from : length (components_from k index flags types offset) ≤ k
   few-from =
       by_flags (λ k i o cs. length cs ≤ k) (λ i o. omega arith) (λ k i o cs h. omega arith) (λ k i n o cs h. omega arith)
       k index flags types offset
@@ -77,10 +83,10 @@ module _ (k index flags types offset : ℕ) where
       k index flags types offset
 
   -- a number that is none of the k from `index` on finds none
-  none-outside : (wanted : ℕ) → ((n : ℕ) → index ≤ n → n < index + k → n ≡ wanted → ⊥) → with_index wanted (components_from k index flags types offset) ≡ none
+  none-outside : (wanted : ℕ) → ((n : ℕ) → index ≤ n → n < index + k → n ≡ wanted → ⊥) → with_index wanted (components_from k index flags types offset) ≡ None
   unfolding with_index
   none-outside =
-      by_flags (λ k i o cs. (wanted : ℕ) → ((n : ℕ) → i ≤ n → n < i + k → n ≡ wanted → ⊥) → with_index wanted cs ≡ none) (λ i o w l. refl)
+      by_flags (λ k i o cs. (wanted : ℕ) → ((n : ℕ) → i ≤ n → n < i + k → n ≡ wanted → ⊥) → with_index wanted cs ≡ None) (λ i o w l. refl)
       (λ k i o cs h w l. h w (λ n a b. l n (omega arith) (omega arith)))
       (λ k i n o cs h w l. rw (ne_eqb i w (l i (omega arith) (omega arith))) (h w (λ n a b. l n (omega arith) (omega arith))))
       k index flags types offset
@@ -93,8 +99,8 @@ module _ (k index flags types offset : ℕ) where
 
 module _ (index nibble offset : ℕ) where
   -- the lowest flag's own number finds its component, or none
-  found_here : (b : Bool) (cs cs' : List VertexComponent) → with_index index cs' ≡ none
-      → with_index index (cond b (component_at index nibble offset ∷ cs) cs') ≡ cond b (some (component_at index nibble offset)) none
+  found_here : (b : Bool) (cs cs' : List VertexComponent) → with_index index cs' ≡ None
+      → with_index index (cond b (component_at index nibble offset ∷ cs) cs') ≡ cond b (Some (component_at index nibble offset)) None
   unfolding with_index
   found_here true cs cs' e = rw (eq-eqb index index refl)
   found_here false cs cs' e = e
@@ -109,7 +115,7 @@ module _ (index nibble offset : ℕ) where
 
 -- the component of a set flag: its number, its nibble, and the sizes of the components of lower flags
 found_from : (k m index flags types offset : ℕ) → with_index (index + k) (components_from (k + suc m) index flags types offset)
-    ≡ cond (odd (flags / 2 ^ k)) (some (component_at (index + k) (types / 16 ^ k % 16) (offset + sizes (components_from k index flags types offset)))) none
+    ≡ cond (odd (flags / 2 ^ k)) (Some (component_at (index + k) (types / 16 ^ k % 16) (offset + sizes (components_from k index flags types offset)))) None
 unfolding components_from sizes
 found_from zero m index flags types offset =
     rw (add-zero index, zero-add, div-one flags, div-one types, add-zero offset)
@@ -119,7 +125,7 @@ found_from (suc k) m index flags types offset =
     let n : suc k + suc m ≡ suc (k + suc m) = omega arith in
     simp (i, n, pow-succ', ← div-div-eq-div-mul)
     (Found-later index (types % 16) offset (index + 1 + k) (odd flags)
-    (λ o. cond (odd (flags / 2 / 2 ^ k)) (some (component_at (index + 1 + k) (types / 16 / 16 ^ k % 16) o)) none) _ _ _ _ (λ e. omega arith)
+    (λ o. cond (odd (flags / 2 / 2 ^ k)) (Some (component_at (index + 1 + k) (types / 16 / 16 ^ k % 16) o)) None) _ _ _ _ (λ e. omega arith)
     (found_from k m (index + 1) (flags / 2) (types / 16) (offset + size_of (component_type_of (types % 16)))) (found_from k m (index + 1) (flags / 2) (types / 16) offset))
 
 -- c is one of the components, and has this number
@@ -127,12 +133,12 @@ abbrev pub Among : List VertexComponent → VertexComponent → ℕ → Type 0
 Among cs c index = (i : ℕ) × (i < length cs) × (item cs i ≡ c) × (c.semantic_index ≡ index)
 
 -- what a number finds is among the components
-found_among : (index : ℕ) (cs : List VertexComponent) (c : VertexComponent) → with_index index cs ≡ some c → Among cs c index
+found_among : (index : ℕ) (cs : List VertexComponent) (c : VertexComponent) → with_index index cs ≡ Some c → Among cs c index
 unfolding with_index
 found_among index [] c e = let z : ◌≡◌ {A = ℕ} 0 1 = cc in absurd (omega arith)
 found_among index (x ∷ cs) c e = first (eqb x.semantic_index index) refl e (λ h. found_among index cs c h)
   where
-    first : (b : Bool) → eqb x.semantic_index index ≡ b → cond b (some x) (with_index index cs) ≡ some c → (with_index index cs ≡ some c → Among cs c index) → Among (x ∷ cs) c index
+    first : (b : Bool) → eqb x.semantic_index index ≡ b → cond b (Some x) (with_index index cs) ≡ Some c → (with_index index cs ≡ Some c → Among cs c index) → Among (x ∷ cs) c index
     first true t h later = (0, omega arith, cc, cc (eqb-true x.semantic_index index t))
     first false t h later =
         let r = later h in
@@ -219,29 +225,29 @@ module _ (d : VertexDeclaration) where
 
   -- the component of a semantic: where its flag is set, of the type that the nibble with its number says, behind those of lower flags
   pub component_is : (index : ℕ) → index < 16
-      → component_of d index ≡ cond (odd (d.flags / 2 ^ index)) (some (component_at index (d.types / 16 ^ index % 16) (sizes (components_from index 0 d.flags d.types 0)))) none
+      → component_of d index ≡ cond (odd (d.flags / 2 ^ index)) (Some (component_at index (d.types / 16 ^ index % 16) (sizes (components_from index 0 d.flags d.types 0)))) None
   unfolding component_of components_of
   component_is index h =
       let n : index + suc (15 - index) ≡ 16 = omega arith in
       simp (n, zero-add) at (found_from index (15 - index) 0 d.flags d.types 0)
 
   -- there is none of a number from 16 on
-  pub component-none : (index : ℕ) → 16 ≤ index → component_of d index ≡ none
+  pub component-none : (index : ℕ) → 16 ≤ index → component_of d index ≡ None
   unfolding component_of components_of
   component-none index h = none-outside 16 0 d.flags d.types 0 index (λ n a b e. omega arith)
 
   -- each component is the one that its number finds
-  pub item-found : (i : ℕ) → i < length (components_of d) → component_of d (item (components_of d) i).semantic_index ≡ some (item (components_of d) i)
+  pub item-found : (i : ℕ) → i < length (components_of d) → component_of d (item (components_of d) i).semantic_index ≡ Some (item (components_of d) i)
   unfolding component_of components_of
   item-found i h = (Numbered-from 16 0 d.flags d.types 0 i h).1
 
   -- what a number finds is among the components
-  pub component-among : (index : ℕ) (c : VertexComponent) → component_of d index ≡ some c → Among (components_of d) c index
+  pub component-among : (index : ℕ) (c : VertexComponent) → component_of d index ≡ Some c → Among (components_of d) c index
   unfolding component_of
   component-among index c e = found_among index (components_of d) c e
 
   -- and ends within the total
-  pub found_within : (index : ℕ) (c : VertexComponent) → component_of d index ≡ some c → c.offset + c.size ≤ total_size d
+  pub found_within : (index : ℕ) (c : VertexComponent) → component_of d index ≡ Some c → c.offset + c.size ≤ total_size d
   found_within index c e =
       let a = component-among index c e in
       rw a.2 at (component-within a.0 a.1)

@@ -1,182 +1,148 @@
--- The walk over the flags: what the three loops over them keep.
-use mathlib.Core.Path.{◌≡◌, refl, sym, ap, ◌∙◌}
-use mathlib.Core.List.{List, [], ◌∷◌, ◌++◌, append-nil}
-use mathlib.Core.Option.{none, some}
-use Prim.Native.Nat.{ℕ, suc, ◌+◌, ◌*◌, ◌-◌, ◌/◌, ◌%◌, ◌≤◌, ◌<◌}
-use native.Mathlib.Nat.{add_assoc, add-zero}
-use native.Mathlib.Numerals.{add-one}
-use native.Mathlib.Omega.{arith}
+-- The walk over the flags: what the search for the next set flag keeps, and what is made of the components.
+use Rattle.std.proofs.Common.{◌≡◌, refl, sym, ◌∙◌, Bool, true, false, cond, List, [], ◌∷◌, ℕ, zero, suc, ◌+◌, ◌*◌, ◌-◌, ◌/◌, ◌%◌, ◌^◌, ◌≤◌, ◌<◌, eqb, arith}
+use Rattle.std.proofs.lemmas.Nat.{pow-add}
+use native.Mathlib.Nat.{mod-eq_of_lt, mul_assoc, mul_comm, mul-add, zero-add}
+use Rattle.std.specs.List.{find, sum_by}
+use Rattle.std.proofs.lemmas.List.Sums.{sum_by-cons}
 use borrow.Author.Tests.{eq-eqb, ne_eqb}
-use lib.ListN.{length, take, drop, set, replicate, length-set, take-append-drop}
-use lib.Seq.{append_snoc, drop-drop, drop-set-lt, length-take-le, take-suc-set}
-use Rattle.vertices.specs.Types.{component_type_of, size_of}
-use Rattle.vertices.specs.Declaration.{component_at, components_from, component_list, empty_component, sizes, with_index}
+use Rattle.vertices.specs.Types.{component_type_of, nibble_of, size_of}
+use Rattle.vertices.specs.Declaration.{component_at, components_from, components_of, declaration_id, id_from, odd, sizes, with_index}
 use Rattle.vertices.specs.declared.types.VertexComponent.{VertexComponent}
-use Rattle.vertices.specs.declared.declaration.ComponentList.{ComponentList}
-use Rattle.vertices.proofs.TypeLaws.{size-bound}
+use Rattle.vertices.specs.declared.declaration.VertexDeclaration.{VertexDeclaration}
+use Rattle.vertices.proofs.DeclarationLaws.{id_below}
+use Rattle.vertices.proofs.TypeLaws.{size-bound, type_nibble}
 
--- ---- the walk
-
-module _ (index flags types offset : ℕ) (low : index < 16) where
-  -- at a set flag: its component, then the later ones
-  pub components-set : flags % 2 ≡ 1 → components_from (16 - index) index flags types offset
-      ≡ component_at index (types % 16) offset ∷ components_from (16 - (index + 1)) (index + 1) (flags / 2) (types / 16) (offset + size_of (component_type_of (types % 16)))
-  unfolding components_from
-  components-set e =
-      let n : 16 - index ≡ suc (16 - (index + 1)) = omega arith in
-      rw (n, eq-eqb (flags % 2) 1 e)
-
-  -- at a flag that is not set: the later ones
-  pub components_clear : (flags % 2 ≡ 1 → ⊥) → components_from (16 - index) index flags types offset ≡ components_from (16 - (index + 1)) (index + 1) (flags / 2) (types / 16) offset
-  unfolding components_from
-  components_clear e =
-      let n : 16 - index ≡ suc (16 - (index + 1)) = omega arith in
-      rw (n, ne_eqb (flags % 2) 1 e)
-
--- past the last flag: none
-pub components-end : (index flags types offset : ℕ) → 16 ≤ index → components_from (16 - index) index flags types offset ≡ []
-unfolding components_from
-components-end index flags types offset h =
-    let n : 16 - index ≡ 0 = omega arith in
-    rw n
+-- the components from `index` on are those that were left; so far, components have at most 16 bytes each
+pub record Walking (left : List VertexComponent) (index flags types offset : ℕ) : Type 0 where
+  pub same : components_from (16 - index) index flags types offset ≡ left
+  pub bound : index ≤ 16
+  pub room : offset ≤ 16 * index
 
 -- a component has at most 16 bytes
 pub component_small : (nibble : ℕ) {index offset : ℕ} {c : VertexComponent} → c ≡ component_at index nibble offset → c.size ≤ 16
 component_small nibble e = rw e (size-bound (component_type_of nibble))
 
--- the offset behind a component is its own and its type's size
-next-offset : (nibble offset : ℕ) {index next : ℕ} {c : VertexComponent} → c ≡ component_at index nibble offset → next ≡ offset + c.size → next ≡ offset + size_of (component_type_of nibble)
-next-offset nibble offset e h = h ∙ ap (λ (x : VertexComponent). offset + x.size) e
+-- of no flags: none
+none_set : (k index types offset : ℕ) → components_from k index 0 types offset ≡ []
+unfolding components_from
+none_set zero index types offset = refl
+none_set (suc k) index types offset = none_set k (index + 1) (types / 16) offset
 
--- ---- finding one
+-- of the last k flags, where there are no more or none of them is set: none
+ended : (k index flags types offset : ℕ) → (0 < k → flags ≡ 0) → components_from k index flags types offset ≡ []
+unfolding components_from
+ended zero index flags types offset h = refl
+ended (suc k) index flags types offset h = rw (h (omega arith)) (none_set (suc k) index types offset)
 
--- from this place on the walk finds what it finds from the start
-pub record Searching (wanted flags₀ types₀ index flags types offset : ℕ) : Type 0 where
-  pub same : with_index wanted (components_from (16 - index) index flags types offset) ≡ with_index wanted (components_from 16 0 flags₀ types₀ 0)
-  pub bound : index ≤ 16
-  pub room : offset ≤ 16 * index
+-- at a flag that is not set: those of the later flags
+pub components_clear : (index flags types offset : ℕ) → index < 16 → (flags % 2 ≡ 1 → ⊥)
+    → components_from (16 - index) index flags types offset ≡ components_from (16 - (index + 1)) (index + 1) (flags / 2) (types / 16) offset
+unfolding components_from
+components_clear index flags types offset low e =
+    let n : 16 - index ≡ suc (16 - (index + 1)) = omega arith in
+    rw (n, ne_eqb (flags % 2) 1 e)
 
--- as the search begins
-pub Searching-start : (wanted flags types : ℕ) → Searching wanted flags types 0 flags types 0
-Searching-start wanted flags types = record { same = refl; bound = omega arith; room = omega arith }
+module _ {left : List VertexComponent} {index flags types offset : ℕ} (w : Walking left index flags types offset) where
+  -- at a set flag: its component, then those of the later flags
+  pub walking_set : index < 16 → flags % 2 ≡ 1 → left ≡ component_at index (types % 16) offset
+      ∷ components_from (16 - (index + 1)) (index + 1) (flags / 2) (types / 16) (offset + size_of (component_type_of (types % 16)))
+  unfolding components_from
+  walking_set low e =
+      let n : 16 - index ≡ suc (16 - (index + 1)) = omega arith in
+      sym w.same ∙ rw (n, eq-eqb (flags % 2) 1 e)
 
-module _ {wanted flags₀ types₀ index flags types offset : ℕ} (s : Searching wanted flags₀ types₀ index flags types offset) where
-  -- a set flag with the wanted number: found
-  pub Searching-hit : index < 16 → flags % 2 ≡ 1 → index ≡ wanted
-      → with_index wanted (components_from 16 0 flags₀ types₀ 0) ≡ some (component_at index (types % 16) offset)
-  unfolding with_index
-  Searching-hit low e h = sym s.same ∙ rw (components-set index flags types offset low e, eq-eqb index wanted h)
+  -- at a flag that is not set: those of the later flags
+  pub walking_clear : index < 16 → (flags % 2 ≡ 1 → ⊥) → Walking left (index + 1) (flags / 2) (types / 16) offset
+  walking_clear low e =
+      record { same = sym (components_clear index flags types offset low e) ∙ w.same; bound = omega arith; room = omega (arith, w.room) }
 
-  -- a set flag with another number: on, behind its component
-  pub Searching-set : {c : VertexComponent} {next : ℕ} → index < 16 → flags % 2 ≡ 1 → c ≡ component_at index (types % 16) offset → (index ≡ wanted → ⊥) → next ≡ offset + c.size
-      → Searching wanted flags₀ types₀ (index + 1) (flags / 2) (types / 16) next
-  unfolding with_index
-  Searching-set low e is h n =
-      let q = next-offset (types % 16) offset is n in
-      record {
-        same = rw q (rw (components-set index flags types offset low e, ne_eqb index wanted h) at s.same);
-        bound = omega arith;
-        room = omega (arith, component_small (types % 16) is, s.room);
-      }
+  -- past the last flag, or with no flag left: none
+  pub walking_end : (index < 16 → flags ≡ 0) → left ≡ []
+  walking_end h = sym w.same ∙ ended (16 - index) index flags types offset (λ some. h (omega arith))
 
-  -- a flag that is not set: on
-  pub Searching-clear : {next : ℕ} → index < 16 → (flags % 2 ≡ 1 → ⊥) → next ≡ offset → Searching wanted flags₀ types₀ (index + 1) (flags / 2) (types / 16) next
-  Searching-clear low e n = record {
-    same = rw n (rw (components_clear index flags types offset low e) at s.same);
-    bound = omega arith;
-    room = omega (arith, s.room);
-  }
+-- ---- of a list of components
 
-  -- past the last flag: there is none
-  pub Searching-end : 16 ≤ index → with_index wanted (components_from 16 0 flags₀ types₀ 0) ≡ none
-  unfolding with_index
-  Searching-end h = sym s.same ∙ rw (components-end index flags types offset h)
+-- the first with a number, as the library's search finds it
+pub first_found : (index : ℕ) (cs : List VertexComponent) → with_index index cs ≡ find (λ c. eqb c.semantic_index index) cs
+unfolding with_index
+first_found index [] = refl
+first_found index (c ∷ cs) = rw (first_found index cs)
 
--- ---- adding up the sizes
+-- their sizes, as the library's sum
+pub sizes_summed : (cs : List VertexComponent) → sizes cs ≡ sum_by (λ c. c.size) cs
+unfolding sizes
+sizes_summed [] = refl
+sizes_summed (c ∷ cs) = rw (sum_by-cons (λ (c : VertexComponent). c.size) c cs, sizes_summed cs)
 
--- the sum so far and the sizes from this place on are the total
-pub record Summing (flags₀ types₀ index flags types total : ℕ) : Type 0 where
-  pub same : total + sizes (components_from (16 - index) index flags types total) ≡ sizes (components_from 16 0 flags₀ types₀ 0)
-  pub bound : index ≤ 16
-  pub room : total ≤ 16 * index
+-- ---- the id
+
+-- the nibbles of components, each at its number's place
+abbrev pub placed : List VertexComponent → ℕ
+placed [] = 0
+placed (c ∷ cs) = nibble_of c.component_type * 2 ^ (4 * c.semantic_index) + placed cs
+
+-- each number is a flag's
+abbrev pub AllFlags : List VertexComponent → Type 0
+AllFlags [] = Unit
+AllFlags (c ∷ cs) = (c.semantic_index < 16) × AllFlags cs
+
+-- of the components of the flags from `index` on: their id, at the place of `index`
+pub placed_from : (k index flags types offset : ℕ) → placed (components_from k index flags types offset) ≡ 2 ^ (4 * index) * id_from k flags types
+unfolding components_from id_from
+placed_from zero index flags types offset = omega arith
+placed_from (suc k) index flags types offset =
+    cases _ _ (odd flags) (placed_from k (index + 1) (flags / 2) (types / 16) (offset + size_of (component_type_of (types % 16)))) (placed_from k (index + 1) (flags / 2) (types / 16) offset)
+  where
+    rest : ℕ
+    rest = id_from k (flags / 2) (types / 16)
+
+    next : 2 ^ (4 * (index + 1)) * rest ≡ 2 ^ (4 * index) * (16 * rest)
+    next =
+        let four : 4 * (index + 1) ≡ 4 * index + 4 = omega arith in
+        rw (four, pow-add 2 (4 * index) 4) (mul_assoc (2 ^ (4 * index)) 16 rest)
+
+    cases : (xs ys : List VertexComponent) (b : Bool) → placed xs ≡ 2 ^ (4 * (index + 1)) * rest → placed ys ≡ 2 ^ (4 * (index + 1)) * rest
+        → placed (cond b (component_at index (types % 16) offset ∷ xs) ys) ≡ 2 ^ (4 * index) * (cond b (types % 16) 0 + 16 * rest)
+    cases xs ys true x y = rw (x, type_nibble (types % 16), next, mul_comm (types % 16) (2 ^ (4 * index))) (sym (mul-add (2 ^ (4 * index)) (types % 16) (16 * rest)))
+    cases xs ys false x y = rw (y, next) (rw zero-add)
+
+-- each number is that of a flag
+pub flags_from : (k index flags types offset : ℕ) → index + k ≤ 16 → AllFlags (components_from k index flags types offset)
+unfolding components_from
+flags_from zero index flags types offset h = tt
+flags_from (suc k) index flags types offset h =
+    cases _ _ (odd flags) (flags_from k (index + 1) (flags / 2) (types / 16) (offset + size_of (component_type_of (types % 16))) (omega arith)) (flags_from k (index + 1) (flags / 2) (types / 16) offset (omega arith))
+  where
+    cases : (xs ys : List VertexComponent) (b : Bool) → AllFlags xs → AllFlags ys → AllFlags (cond b (component_at index (types % 16) offset ∷ xs) ys)
+    cases xs ys true x y = (omega arith, x)
+    cases xs ys false x y = y
+
+-- the id so far and the nibbles of the components to come are the whole id, which fits
+pub record Placing (whole id : ℕ) (left : List VertexComponent) : Type 0 where
+  pub same : id + placed left ≡ whole
+  pub flags : AllFlags left
+  pub fits : whole < 18446744073709551616
 
 -- as the sum begins
-pub summing_start : (flags types : ℕ) → Summing flags types 0 flags types 0
-summing_start flags types = record { same = omega arith; bound = omega arith; room = omega arith }
+pub placing_start : (d : VertexDeclaration) → Placing (declaration_id d) 0 (components_of d)
+unfolding components_of
+placing_start d =
+    let e : placed (components_from 16 0 d.flags d.types 0) ≡ id_from 16 d.flags d.types = placed_from 16 0 d.flags d.types 0 ∙ omega arith in
+    record {
+      same = zero-add _ ∙ e;
+      flags = flags_from 16 0 d.flags d.types 0 (omega arith);
+      fits = id_below 16 d.flags d.types;
+    }
 
-module _ {flags₀ types₀ index flags types total : ℕ} (s : Summing flags₀ types₀ index flags types total) where
-  -- a set flag: its type's size is added
-  pub summing_set : {next : ℕ} → index < 16 → flags % 2 ≡ 1 → next ≡ total + size_of (component_type_of (types % 16))
-      → Summing flags₀ types₀ (index + 1) (flags / 2) (types / 16) next
-  unfolding sizes
-  summing_set low e n = record {
-    same = rw (n, add_assoc) (rw (components-set index flags types total low e) at s.same);
-    bound = omega arith;
-    room = omega (arith, size-bound (component_type_of (types % 16)), s.room);
-  }
+-- at a component: its nibble, none of whose bits is lost, is added
+pub placing_more : {whole id n : ℕ} {c : VertexComponent} {left rest : List VertexComponent} → Placing whole id left → left ≡ c ∷ rest → n ≡ nibble_of c.component_type
+    → (c.semantic_index < 16) × Placing whole (id + n * 2 ^ (4 * c.semantic_index) % 18446744073709551616) rest
+placing_more {whole} {id} {n} {c} {left} {rest} p e h =
+    let same : id + (n * 2 ^ (4 * c.semantic_index) + placed rest) ≡ whole = rw h (rw e at p.same) in
+    let flags : AllFlags (c ∷ rest) = rw e at p.flags in
+    let kept : n * 2 ^ (4 * c.semantic_index) % 18446744073709551616 ≡ n * 2 ^ (4 * c.semantic_index) = mod-eq_of_lt (omega (arith, p.fits)) in
+    (flags.0, record { same = rw kept (omega arith); flags = flags.1; fits = p.fits })
 
-  -- a flag that is not set: nothing is
-  pub Summing-clear : {next : ℕ} → index < 16 → (flags % 2 ≡ 1 → ⊥) → next ≡ total → Summing flags₀ types₀ (index + 1) (flags / 2) (types / 16) next
-  Summing-clear low e n = record {
-    same = rw n (rw (components_clear index flags types total low e) at s.same);
-    bound = omega arith;
-    room = omega (arith, s.room);
-  }
-
-  -- past the last flag: the sum is the total
-  pub Summing-end : 16 ≤ index → total ≡ sizes (components_from 16 0 flags₀ types₀ 0)
-  unfolding sizes
-  Summing-end h = sym (add-zero total) ∙ rw (components-end index flags types total h) at s.same
-
--- ---- filling an array
-
--- the first `count` items and the components still to come are all of them; the other items are empty
-pub record Filling (all items : List VertexComponent) (count index flags types offset : ℕ) : Type 0 where
-  pub whole : take count items ++ components_from (16 - index) index flags types offset ≡ all
-  pub rest : drop count items ≡ replicate (16 - count) empty_component
-  pub same : length items ≡ 16
-  pub few : count ≤ index
-  pub bound : index ≤ 16
-  pub room : offset ≤ 16 * index
-
--- as the filling begins
-pub Filling-start : (flags types : ℕ) {c : VertexComponent} → c ≡ empty_component → Filling (components_from 16 0 flags types 0) (replicate 16 c) 0 0 flags types 0
-Filling-start flags types e = record { whole = refl; rest = rw e; same = refl; few = omega arith; bound = omega arith; room = omega arith }
-
-module _ {all items : List VertexComponent} {count index flags types offset : ℕ} (f : Filling all items count index flags types offset) where
-  -- a set flag: its component is the next item
-  pub Filling-set : {c : VertexComponent} {items' : List VertexComponent} {count' next : ℕ} → index < 16 → flags % 2 ≡ 1 → c ≡ component_at index (types % 16) offset → items' ≡ set items count c
-      → count' ≡ count + 1 → next ≡ offset + c.size → Filling all items' count' (index + 1) (flags / 2) (types / 16) next
-  Filling-set {c} low e is i n o =
-      let q = next-offset (types % 16) offset is o in
-      let l : count < length items = omega (arith, f.few, f.same) in
-      let m : 16 - count ≡ suc (16 - (count + 1)) = omega arith in
-      let w = rw (components-set index flags types offset low e, ← is) at f.whole in
-      record {
-        whole = rw (i, n, q, add-one count, take-suc-set items count c l, append_snoc) w;
-        rest = rw (i, n, drop-set-lt (count + 1) items count c (omega arith), ← drop-drop 1 count items, f.rest, m);
-        same = rw (i, length-set) f.same;
-        few = omega (arith, f.few);
-        bound = omega arith;
-        room = omega (arith, component_small (types % 16) is, f.room);
-      }
-
-  -- a flag that is not set: no item
-  pub Filling-clear : {items' : List VertexComponent} {count' next : ℕ} → index < 16 → (flags % 2 ≡ 1 → ⊥) → items' ≡ items → count' ≡ count → next ≡ offset
-      → Filling all items' count' (index + 1) (flags / 2) (types / 16) next
-  Filling-clear low e i n o = record {
-    whole = rw (i, n, o) (rw (components_clear index flags types offset low e) at f.whole);
-    rest = rw (i, n) f.rest;
-    same = rw i f.same;
-    few = omega (arith, f.few);
-    bound = omega arith;
-    room = omega (arith, f.room);
-  }
-
-  -- past the last flag: the components are all there
-  pub Filling-end : 16 ≤ index → ◌≡◌ {A = ComponentList} (record { items = items; count = count }) (component_list all)
-  unfolding component_list
-  Filling-end h =
-      let t : take count items ≡ all = sym (append-nil (take count items)) ∙ rw (components-end index flags types offset h) at f.whole in
-      let n : length all ≡ count = sym (ap length t) ∙ length-take-le count items (omega (arith, f.few, f.same, f.bound)) in
-      rw (n, ← t, ← f.rest, take-append-drop)
+-- after the last: the whole id
+pub placing_end : {whole id : ℕ} {left : List VertexComponent} → Placing whole id left → left ≡ [] → id ≡ whole
+placing_end p e = omega (arith, rw e at p.same)

@@ -3,7 +3,7 @@ use mathlib.Core.Path.{◌≡◌, refl, sym, ap, ◌∙◌}
 use mathlib.Core.Bool.{Bool, true, false, cond}
 use mathlib.Core.List.{List}
 use Prim.Native.Nat.{ℕ, zero, suc, ◌+◌, ◌*◌, ◌-◌, ◌/◌, ◌%◌, ◌^◌, ◌≤◌, ◌<◌}
-use native.Mathlib.Nat.{add-zero}
+use native.Mathlib.Nat.{add-zero, pow-succ'}
 use native.Mathlib.Omega.{arith}
 use lib.Dec.{lit<}
 use lib.ListN.{length, get_or}
@@ -75,11 +75,6 @@ position-InWidth stride h = record { flags = lit< tt; stride = h; unknown = lit<
 
 -- ---- the id
 
--- of no flags
-pub id-none : (flags types : ℕ) → id_from 0 flags types ≡ 0
-unfolding id_from
-id-none flags types = refl
-
 -- of k flags: the lowest, and 16 times that of the others
 pub id_next : (k flags types : ℕ) → 0 < k → id_from k flags types ≡ cond (odd flags) (types % 16) 0 + 16 * id_from (k - 1) (flags / 2) (types / 16)
 unfolding id_from
@@ -87,12 +82,22 @@ id_next k flags types h =
     let n : k ≡ suc (k - 1) = omega arith in
     ap (λ (m : ℕ). id_from m flags types) n
 
-cond-bound : (b : Bool) (x : ℕ) → cond b x 0 ≤ x
-cond-bound true x = omega arith
-cond-bound false x = omega arith
+digit_small : (b : Bool) (x : ℕ) → cond b x 0 ≤ x
+digit_small true x = omega arith
+digit_small false x = omega arith
 
 -- an id is at most the types
 pub id_bound : (k flags types : ℕ) → id_from k flags types ≤ types
 unfolding id_from
 id_bound zero flags types = omega arith
-id_bound (suc k) flags types = omega (arith, id_bound k (flags / 2) (types / 16), cond-bound (odd flags) (types % 16))
+id_bound (suc k) flags types = omega (arith, id_bound k (flags / 2) (types / 16), digit_small (odd flags) (types % 16))
+
+digit_below : (b : Bool) (n : ℕ) → cond b (n % 16) 0 < 16
+digit_below true n = omega arith
+digit_below false n = omega arith
+
+-- and of k flags it has a digit for each
+pub id_below : (k flags types : ℕ) → id_from k flags types < 16 ^ k
+unfolding id_from
+id_below zero flags types = omega arith
+id_below (suc k) flags types = let more = pow-succ' 16 k in omega (arith, id_below k (flags / 2) (types / 16), digit_below (odd flags) types)

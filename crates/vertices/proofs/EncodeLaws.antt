@@ -1,13 +1,15 @@
 -- Laws of encoding: how many bytes, how numbers join, and what is read again.
 use mathlib.Core.Path.{◌≡◌, refl, sym, ap, subst, ◌∙◌}
 use mathlib.Core.Bool.{Bool, true, false, cond}
-use mathlib.Core.List.{List, [], ◌∷◌, ◌++◌, append-nil, map}
+use mathlib.Core.List.{List, [], ◌∷◌, ◌++◌, append-nil, map, map-append}
 use Prim.Native.Nat.{ℕ, zero, suc, ◌+◌, ◌*◌, ◌^◌, ◌≤◌, ◌<◌}
-use native.Mathlib.Nat.{add-zero, one-le-pow}
+use native.Mathlib.Nat.{add-mul, add-zero, mul-le-mul_right, one-le-pow}
+use native.Mathlib.Numerals.{add-one}
 use native.Mathlib.Omega.{arith}
 use borrow.Author.Tests.{eqb-true}
 use lib.Dec.{T, eqb, lit<}
-use lib.ListN.{length, get_or, length-map}
+use lib.ListN.{length, get_or, take, length-map}
+use lib.Seq.{length-take-le, take_all, take-suc}
 use Rattle.sections.specs.Edit.{overwrite, fits, Edited}
 use Rattle.sections.specs.Le.{bytes, field}
 use Rattle.sections.proofs.EditLaws.{Edited-fits, overwrite-behind, overwrite-length, overwrite-none, part_same}
@@ -22,7 +24,7 @@ use Rattle.vertices.specs.declared.attribute.VertexAttributeValue.{VertexAttribu
 use Rattle.vertices.specs.declared.attribute.VertexAttributeValue.TheVariants.{One, Two, Three, Four, Bytes, Unsupported}
 use Rattle.vertices.proofs.HalfLaws.{f32-fits}
 use Rattle.vertices.proofs.NormalisedFits.{f32_to_snorm8-fits}
-use Rattle.vertices.proofs.RunLaws.{length_run, run-append, numbers-at, numbers-run}
+use Rattle.vertices.proofs.RunLaws.{length_run, run-append, run-one, numbers-at, numbers-run}
 
 -- ---- how many bytes
 
@@ -95,6 +97,45 @@ unfolding run
 two_join k s at x y f g h =
     let m : at + k + length (bytes k y) ≤ length s = rw length-bytes (omega arith) in
     rw append-nil (overwrite-behind s at (bytes k x) k (bytes k y) f (length-bytes k x) g m)
+
+-- s with the first i of the numbers xs written from `off` on, each k bytes, b; the next goes to `at`
+pub record Encoding (k : ℕ) (f : ℕ → ℕ) (xs s : List ℕ) (off : ℕ) (b : List ℕ) (i at : ℕ) : Type 0 where
+  pub is : b ≡ overwrite s off (run k (map f (take i xs)))
+  pub same : length b ≡ length s
+  pub place : at ≡ off + i * k
+
+module _ {k : ℕ} {f : ℕ → ℕ} {xs s : List ℕ} {off : ℕ} (room : off + length xs * k ≤ length s) where
+  -- before the first
+  pub encoding_start : Encoding k f xs s off s 0 off
+  unfolding run
+  encoding_start = record { is = sym (overwrite-none s off); same = refl; place = omega arith }
+
+  module _ {b : List ℕ} {i at : ℕ} (e : Encoding k f xs s off b i at) where
+    -- there is room for the next
+    pub encoding_room : i < length xs → at + k ≤ length b
+    encoding_room h =
+        let m : (i + 1) * k ≤ length xs * k = mul-le-mul_right k (omega arith) in
+        let n : (i + 1) * k ≡ i * k + k = rw add-mul (omega arith) in
+        omega (arith, e.same, e.place)
+
+    -- one more
+    pub encoding_turn : {x next : ℕ} {t : List ℕ} → i < length xs → x ≡ get_or xs i 0 → t ≡ overwrite b at (bytes k (f x)) → next ≡ at + k → Encoding k f xs s off t (i + 1) next
+    encoding_turn {x} {next} {t} h g u n =
+        let m : (i + 1) * k ≤ length xs * k = mul-le-mul_right k (omega arith) in
+        let p : (i + 1) * k ≡ i * k + k = rw add-mul (omega arith) in
+        let joined : map f (take (i + 1) xs) ≡ map f (take i xs) ++ f x ∷ [] = rw (add-one, take-suc xs i 0 h, ← g, map-append) in
+        let size : length (map f (take i xs)) ≡ i = rw length-map (length-take-le i xs (omega arith)) in
+        let put : t ≡ overwrite b (off + i * k) (run k (f x ∷ [])) = rw (← e.place, run-one) u in
+        let is : t ≡ overwrite s off (run k (map f (take i xs) ++ f x ∷ [])) = runs_join k s off i (map f (take i xs)) (f x ∷ []) size e.is put (omega arith) in
+        record {
+          is = rw joined is;
+          same = ap length u ∙ overwrite-length b at (bytes k (f x)) (rw length-bytes (encoding_room h)) ∙ e.same;
+          place = omega (arith, e.place);
+        }
+
+    -- after the last
+    pub encoding_end : i ≡ length xs → b ≡ overwrite s off (run k (map f xs))
+    encoding_end h = e.is ∙ ap (λ (ys : List ℕ). overwrite s off (run k (map f ys))) (take_all i xs (omega arith))
 
 -- ---- what is written
 

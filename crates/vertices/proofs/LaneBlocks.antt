@@ -87,10 +87,6 @@ pub record VerticesWritten (p : UnifiedPlan) (s : List ℕ) (stride count : ℕ)
   pub right : (q : ℕ) → q < 21 * i → part t (4 * q) 4 ≡ word_at p s stride q
   pub rest : (at n : ℕ) → 84 * count ≤ at → part t at n ≡ part b at n
 
--- none
-pub Vertices-start : {p : UnifiedPlan} {s : List ℕ} {stride count : ℕ} {b : List ℕ} → VerticesWritten p s stride count b 0 b
-Vertices-start = record { low = omega arith; blocks = λ h l. absurd (omega arith); same = refl; right = λ q h. absurd (omega arith); rest = λ at n h. refl }
-
 module _ {p : UnifiedPlan} {s : List ℕ} {stride count : ℕ} {b : List ℕ} {i : ℕ} {t : List ℕ} (c : VerticesWritten p s stride count b i t) where
   -- all
   pub Vertices-end : i ≡ count → 84 * count ≤ length b → t ≡ overwrite b 0 (run_of (λ (k : ℕ). planned_vertex p s (k * stride)) count)

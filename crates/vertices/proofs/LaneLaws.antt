@@ -21,33 +21,14 @@ use Rattle.vertices.specs.declared.values.Vec4.{Vec4}
 use Rattle.vertices.specs.declared.types.VertexComponent.{VertexComponent}
 use Rattle.vertices.specs.declared.types.VertexComponentType.{VertexComponentType}
 use Rattle.vertices.specs.declared.types.VertexComponentType.TheVariants.{Nothing, Half2, Float, Half4, FloatUnknown, Float2, Float3, Float4, UByte4, Colour, Rgba8Snorm, Unknown}
-use Rattle.vertices.specs.declared.attribute.VertexAttributeValue.{VertexAttributeValue}
-use Rattle.vertices.specs.declared.attribute.VertexAttributeValue.TheVariants.{One, Two, Three, Four, Bytes, Unsupported}
-use Rattle.vertices.specs.declared.declaration.FoundComponent.{FoundComponent}
-use Rattle.vertices.specs.declared.declaration.FoundComponent.TheVariants.{Component, Missing}
+use Rattle.std.specs.Prelude.{Option, Some, None}
 use Rattle.vertices.specs.declared.lane.Lane.{Lane}
 use Rattle.vertices.specs.declared.lane.Lane.TheVariants.{Constant}
 use Rattle.vertices.specs.declared.unify.UnifiedPlan.{UnifiedPlan}
+use Rattle.vertices.proofs.AttributeLaws.{two_of_four, three_of_four}
 use Rattle.vertices.proofs.UnifiedBytes.{length-run_of}
 
 -- ---- the words of a field
-
--- a vector of two or three is the first places of the vector of four
-two_of_four : (v : VertexAttributeValue) → as_vec2 v ≡ record { x = (as_vec4 v).x; y = (as_vec4 v).y }
-two_of_four (One f) = refl
-two_of_four (Two v) = refl
-two_of_four (Three v) = refl
-two_of_four (Four v) = refl
-two_of_four (Bytes b) = refl
-two_of_four Unsupported = refl
-
-three_of_four : (v : VertexAttributeValue) → as_vec3 v ≡ record { x = (as_vec4 v).x; y = (as_vec4 v).y; z = (as_vec4 v).z }
-three_of_four (One f) = refl
-three_of_four (Two v) = refl
-three_of_four (Three v) = refl
-three_of_four (Four v) = refl
-three_of_four (Bytes b) = refl
-three_of_four Unsupported = refl
 
 module _ (s : List ℕ) (base : ℕ) where
   -- the four words that a vector v should have, and those that a lane for each place gives
@@ -73,24 +54,24 @@ module _ (s : List ℕ) (base : ℕ) where
   place_words (Unknown n) at = record { x = refl; y = refl; z = refl; w = refl }
 
   -- a field that is a vector, with the defaults d
-  vector_words : (found : FoundComponent) (d : ℕ → ℕ)
+  vector_words : (found : Option VertexComponent) (d : ℕ → ℕ)
       → Words (λ k. vector_lane found k (d k)) (planned (λ t v. as_vec4 v) (record { x = bits (d 0); y = bits (d 1); z = bits (d 2); w = bits (d 3) }) s base found)
   unfolding vector_lane planned lane_bytes
-  vector_words Missing d = record { x = refl; y = refl; z = refl; w = refl }
-  vector_words (Component c) d = place_words c.component_type c.offset
+  vector_words None d = record { x = refl; y = refl; z = refl; w = refl }
+  vector_words (Some c) d = place_words c.component_type c.offset
 
   -- a vector of two or three
-  planned-two : (found : FoundComponent) (d : Vec4) → planned (λ t v. as_vec2 v) (record { x = d.x; y = d.y }) s base found
+  planned-two : (found : Option VertexComponent) (d : Vec4) → planned (λ t v. as_vec2 v) (record { x = d.x; y = d.y }) s base found
       ≡ record { x = (planned (λ t v. as_vec4 v) d s base found).x; y = (planned (λ t v. as_vec4 v) d s base found).y }
   unfolding planned
-  planned-two Missing d = refl
-  planned-two (Component c) d = two_of_four (value_at c.component_type s (base + c.offset))
+  planned-two None d = refl
+  planned-two (Some c) d = two_of_four (value_at c.component_type s (base + c.offset))
 
-  planned-three : (found : FoundComponent) (d : Vec4) → planned (λ t v. as_vec3 v) (record { x = d.x; y = d.y; z = d.z }) s base found
+  planned-three : (found : Option VertexComponent) (d : Vec4) → planned (λ t v. as_vec3 v) (record { x = d.x; y = d.y; z = d.z }) s base found
       ≡ record { x = (planned (λ t v. as_vec4 v) d s base found).x; y = (planned (λ t v. as_vec4 v) d s base found).y; z = (planned (λ t v. as_vec4 v) d s base found).z }
   unfolding planned
-  planned-three Missing d = refl
-  planned-three (Component c) d = three_of_four (value_at c.component_type s (base + c.offset))
+  planned-three None d = refl
+  planned-three (Some c) d = three_of_four (value_at c.component_type s (base + c.offset))
 
   -- a field that is a colour
   rgba8_word : (t : VertexComponentType) (at : ℕ) → lane_bytes (rgba8_lane t at) s base ≡ bytes4_bytes (as_rgba8 t (value_at t s (base + at)))
@@ -108,16 +89,16 @@ module _ (s : List ℕ) (base : ℕ) where
   rgba8_word Rgba8Snorm at = refl
   rgba8_word (Unknown n) at = refl
 
-  colour_word : (found : FoundComponent) → lane_bytes (colour_lane found) s base ≡ bytes4_bytes (planned as_rgba8 white s base found)
+  colour_word : (found : Option VertexComponent) → lane_bytes (colour_lane found) s base ≡ bytes4_bytes (planned as_rgba8 white s base found)
   unfolding colour_lane planned lane_bytes run bytes
-  colour_word Missing = refl
-  colour_word (Component c) = rgba8_word c.component_type c.offset
+  colour_word None = refl
+  colour_word (Some c) = rgba8_word c.component_type c.offset
 
   -- and one that is indices
-  index_word : (found : FoundComponent) → lane_bytes (index_lane found) s base ≡ bytes4_bytes (planned as_indices no_indices s base found)
+  index_word : (found : Option VertexComponent) → lane_bytes (index_lane found) s base ≡ bytes4_bytes (planned as_indices no_indices s base found)
   unfolding index_lane planned lane_bytes run bytes
-  index_word Missing = refl
-  index_word (Component c) = whether (holds_indices c.component_type)
+  index_word None = refl
+  index_word (Some c) = whether (holds_indices c.component_type)
     where
       whether : (b : Bool) → lane_bytes (cond b (rgba8_lane c.component_type c.offset) (Constant 0)) s base ≡ bytes4_bytes (cond b (as_rgba8 c.component_type (value_at c.component_type s (base + c.offset))) no_indices)
       whether true = rgba8_word c.component_type c.offset
@@ -269,20 +250,20 @@ module _ (base n : ℕ) where
   ends_of : {c : VertexComponent} → Inside c base n → 0 < size_of c.component_type → base + c.offset + size_of c.component_type ≤ n
   ends_of i h = omega (arith, i.size, i.ends (omega (arith, i.size)))
 
-  vector_reads : (found : FoundComponent) (k default : ℕ) → Ends found base n → Inner (vector_lane found k default)
+  vector_reads : (found : Option VertexComponent) (k default : ℕ) → Ends found base n → Inner (vector_lane found k default)
   unfolding vector_lane
-  vector_reads Missing k default i = record { is = tt }
-  vector_reads (Component c) k default i = record { is = place_reads c.component_type c.offset k (ends_of i) }
+  vector_reads None k default i = record { is = tt }
+  vector_reads (Some c) k default i = record { is = place_reads c.component_type c.offset k (ends_of i) }
 
-  colour_reads : (found : FoundComponent) → Ends found base n → Inner (colour_lane found)
+  colour_reads : (found : Option VertexComponent) → Ends found base n → Inner (colour_lane found)
   unfolding colour_lane
-  colour_reads Missing i = record { is = tt }
-  colour_reads (Component c) i = record { is = rgba8_reads c.component_type c.offset (ends_of i) }
+  colour_reads None i = record { is = tt }
+  colour_reads (Some c) i = record { is = rgba8_reads c.component_type c.offset (ends_of i) }
 
-  Indices-read : (found : FoundComponent) → Ends found base n → Inner (index_lane found)
+  Indices-read : (found : Option VertexComponent) → Ends found base n → Inner (index_lane found)
   unfolding index_lane
-  Indices-read Missing i = record { is = tt }
-  Indices-read (Component c) i = either (holds_indices c.component_type) (record { is = rgba8_reads c.component_type c.offset (ends_of i) }) (record { is = tt })
+  Indices-read None i = record { is = tt }
+  Indices-read (Some c) i = either (holds_indices c.component_type) (record { is = rgba8_reads c.component_type c.offset (ends_of i) }) (record { is = tt })
 
   -- each lane of a plan
   pub lane_reads : (p : UnifiedPlan) (j : ℕ) → Readable p base n → Reads (lane_of p j) base n

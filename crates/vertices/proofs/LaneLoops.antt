@@ -8,7 +8,22 @@ use native.Mathlib.Omega.{arith}
 use lib.ListN.{length}
 use Rattle.sections.specs.Edit.{part, overwrite}
 use Rattle.sections.proofs.EditLaws.{overwrite-length, part_same, part-before, part-after}
-use Rattle.vertices.specs.Inner.Lanes.{WordsWritten}
+use Rattle.sections.proofs.LeLaws.{length-bytes}
+use Rattle.vertices.specs.Inner.Lanes.{lane_bytes, WordsWritten}
+use Rattle.vertices.specs.declared.lane.Lane.{Lane}
+use Rattle.vertices.specs.declared.lane.Lane.TheVariants.{Constant, Word, Half, Snorm, Unorm, Raw, Rgba8}
+use Rattle.vertices.proofs.RunLaws.{length_run}
+
+-- every lane gives four bytes
+pub lane_bytes-length : (lane : Lane) (s : List ℕ) (base : ℕ) → length (lane_bytes lane s base) ≡ 4
+unfolding lane_bytes
+lane_bytes-length (Constant word) s base = length-bytes 4 _
+lane_bytes-length (Word off) s base = length-bytes 4 _
+lane_bytes-length (Half off) s base = length-bytes 4 _
+lane_bytes-length (Snorm off) s base = length-bytes 4 _
+lane_bytes-length (Unorm off) s base = length-bytes 4 _
+lane_bytes-length (Raw off) s base = length_run 1 _
+lane_bytes-length (Rgba8 t off) s base = length_run 1 _
 
 -- before the first vertex, and where nothing is to be written: the words stand already
 pub Words-nothing : {g : ℕ → List ℕ} {first end j : ℕ} {b : List ℕ} → ((i : ℕ) → first ≤ i → i < end → part b (i * 84 + 4 * j) 4 ≡ g i) → WordsWritten g first end j b b

@@ -25,6 +25,7 @@ pub mod RunLoops
 pub mod ByteRunLaws
 pub mod TypeLaws
 pub mod DeclarationLaws
+pub mod ComponentSizes
 pub mod ComponentWalk
 pub mod ComponentLaws
 pub mod BufferLaws

@@ -20,8 +20,9 @@ use Rattle.vertices.specs.declared.buffer.VertexBuffer.{VertexBuffer}
 use Rattle.vertices.specs.declared.declaration.VertexDeclaration.{VertexDeclaration}
 use Rattle.vertices.specs.declared.types.VertexComponent.{VertexComponent}
 use Rattle.vertices.specs.declared.unify.UnifiedVertex.{UnifiedVertex}
-use Rattle.vertices.specs.declared.unify.UnifyAnswer.{UnifyAnswer}
-use Rattle.vertices.specs.declared.unify.UnifyAnswer.TheVariants.{Written, OutsideData, NeedsBytes}
+use Rattle.std.specs.Prelude.{Result, Ok, Err}
+use Rattle.vertices.specs.declared.unify.UnifyError.{UnifyError}
+use Rattle.vertices.specs.declared.unify.UnifyError.TheVariants.{OutsideData, NeedsBytes}
 use Rattle.vertices.proofs.BufferLaws.{FoundData, buffer_data}
 use Rattle.vertices.proofs.ComponentLaws.{item}
 use Rattle.vertices.proofs.UnifiedBytes.{Unified-length, length-run_of}
@@ -88,8 +89,8 @@ module _ (out vs : List ℕ) (n : ℕ) (long : length vs ≡ n) (room : n ≤ le
       drop_at vs (drop (0 + length vs) out) n long ∙ rw end
 
 -- where all vertices of a buffer were written
-written_vertices : (s : Sections) (b : VertexBuffer) (out : List ℕ) (r : UnifyAnswer) (t : List ℕ) → 84 * b.vertex_count ≤ length out
-    → r ≡ Written (84 * b.vertex_count)
+written_vertices : (s : Sections) (b : VertexBuffer) (out : List ℕ) (r : Result ℕ UnifyError) (t : List ℕ) → 84 * b.vertex_count ≤ length out
+    → r ≡ Ok (84 * b.vertex_count)
     → t ≡ overwrite out 0 (unified_run (read_by b) (data_of s b) b.vertex_stride b.vertex_count) → GivesVertices s b out r t
 unfolding unified_run
 written_vertices s b out r t room answer bytes =
@@ -106,12 +107,12 @@ written_vertices s b out r t room answer bytes =
 -- ---- the law
 
 -- refused into an output long enough: by check 9
-refused_outside : (inside room : Bool) (n : ℕ) (r : UnifyAnswer) (vs out t : List ℕ) → room ≡ true → stated r ≡ cond inside (cond room (0, n) (10, n)) (9, 0)
-    → t ≡ cond (inside && room) vs out → (Unifies r → ⊥) → (r ≡ OutsideData) × (t ≡ out)
+refused_outside : (inside room : Bool) (n : ℕ) (r : Result ℕ UnifyError) (vs out t : List ℕ) → room ≡ true → stated r ≡ cond inside (cond room (0, n) (10, n)) (9, 0)
+    → t ≡ cond (inside && room) vs out → (Unifies r → ⊥) → (r ≡ Err OutsideData) × (t ≡ out)
 refused_outside true room n r vs out t long e f h = absurd (h (ap (λ (x : ℕ × ℕ). x.0) (rw long at e)))
-refused_outside false room n (Written m) vs out t long e f h = absurd (omega (arith, ap (λ (x : ℕ × ℕ). x.0) e))
-refused_outside false room n OutsideData vs out t long e f h = (refl, f)
-refused_outside false room n (NeedsBytes m) vs out t long e f h = absurd (omega (arith, ap (λ (x : ℕ × ℕ). x.0) e))
+refused_outside false room n (Ok m) vs out t long e f h = absurd (omega (arith, ap (λ (x : ℕ × ℕ). x.0) e))
+refused_outside false room n (Err OutsideData) vs out t long e f h = (refl, f)
+refused_outside false room n (Err (NeedsBytes m)) vs out t long e f h = absurd (omega (arith, ap (λ (x : ℕ × ℕ). x.0) e))
 
 -- Demand 2: "Into an output long enough, a located buffer unifies exactly when each component of nonzero size ends within the stride, and gives vertex_count
 -- vertices."
@@ -129,7 +130,7 @@ LocatedUnifies_lem s va pointer count stride b located out room r t u =
     let inside : Bool = vertices_inside d (length (data_of s b)) b.vertex_stride b.vertex_count in
     let fit = le-leb (0 + 84 * b.vertex_count) (length out) (omega arith) in
     record {
-      exactly = (only, λ f. ap (λ (a : UnifyAnswer). (stated a).0) (given f).answer);
+      exactly = (only, λ f. ap (λ (a : Result ℕ UnifyError). (stated a).0) (given f).answer);
       gives = λ accepted. given (only accepted);
       otherwise = refused_outside inside _ _ r _ out t fit u.answer u.bytes;
     }

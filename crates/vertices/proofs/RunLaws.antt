@@ -1,12 +1,14 @@
 -- Laws of runs, for every width k.
 use mathlib.Core.Path.{◌≡◌, refl, sym, ap, ◌∙◌}
 use mathlib.Core.List.{List, [], ◌∷◌, ◌++◌, map, append_assoc, append-nil, map-append}
-use Prim.Native.Nat.{ℕ, zero, suc, ◌+◌, ◌*◌, ◌^◌, ◌≤◌, ◌<◌}
+use Prim.Native.Nat.{ℕ, zero, suc, ◌+◌, ◌*◌, ◌/◌, ◌%◌, ◌^◌, ◌≤◌, ◌<◌}
 use native.Mathlib.Nat.{add_comm, mul-le-mul_right, suc-add, suc-mul, zero-add, zero-mul}
 use native.Mathlib.Omega.{arith}
 use lib.ListN.{length, take, drop, get_or, length-append, length-drop, length-map}
-use lib.Seq.{drop_at, drop-drop, get_or-drop, length-take-le, take-add, take_at}
-use Rattle.sections.specs.Edit.{part}
+use lib.Seq.{drop_at, drop-drop, get_or-drop, length-take-le, take-add, take_all, take_at}
+use Rattle.std.proofs.lemmas.Slice.{put_mid-paste}
+use borrow.Rule.Slice.PartMut.{put_mid}
+use Rattle.sections.specs.Edit.{part, overwrite}
 use Rattle.sections.specs.Le.{le, bytes, field}
 use Rattle.sections.proofs.EditLaws.{part-part, take_below}
 use Rattle.sections.proofs.LeLaws.{bytes_le, field_in, le-add, le_bytes, le-one, length-bytes}
@@ -105,6 +107,10 @@ module _ (k m : ℕ) (f : ℕ → ℕ) where
 
 -- ---- bytes read one by one
 
+-- the number of two bytes
+pub le_two : (s : List ℕ) (at : ℕ) → at + 2 ≤ length s → le (part s at 2) ≡ get_or s at 0 + 256 * get_or s (at + 1) 0
+le_two s at h = omega (arith, le-add 1 1 s at (omega arith), le-one s at (omega arith), le-one s (at + 1) (omega arith))
+
 -- the number of four bytes
 pub le_four : (s : List ℕ) (at : ℕ) → at + 4 ≤ length s → le (part s at 4) ≡ get_or s at 0 + 256 * get_or s (at + 1) 0 + 65536 * get_or s (at + 2) 0 + 16777216 * get_or s (at + 3) 0
 le_four s at h =
@@ -119,3 +125,23 @@ le_four s at h =
       le-one s (at + 2) (omega arith),
       le-one s (at + 2 + 1) (omega arith),
     )
+
+-- ---- bytes written at once
+
+-- a part of s replaced by as many bytes
+pub overwrite_part : (at n : ℕ) (s : List ℕ) {ys vs : List ℕ} → ys ≡ vs → length vs ≡ n → put_mid at n s ys ≡ overwrite s at vs
+unfolding overwrite
+overwrite_part at n s {ys} {vs} e l = rw l (put_mid-paste at n s ys vs n e refl (sym l) ∙ ap (λ (xs : List ℕ). take at s ++ xs ++ drop (at + n) s) (take_all n vs (omega arith)))
+
+-- a number's two bytes
+pub bytes_two : (v : ℕ) → bytes 2 v ≡ v % 256 ∷ v / 256 % 256 ∷ []
+unfolding bytes
+bytes_two v = refl
+
+-- a number's four bytes
+pub bytes_four : (v : ℕ) → bytes 4 v ≡ v % 256 ∷ v / 256 % 256 ∷ v / 65536 % 256 ∷ v / 16777216 % 256 ∷ []
+unfolding bytes
+bytes_four v =
+    let third : v / 256 / 256 ≡ v / 65536 = omega arith in
+    let fourth : v / 65536 / 256 ≡ v / 16777216 = omega arith in
+    rw (third, fourth)

@@ -1,8 +1,8 @@
 -- Laws of unified vertices: the plan gives the same vertices, its components are inside where check 9 passes, and when whole vertices unify.
+use Rattle.std.specs.Prelude.{Option, None, Some}
 use mathlib.Core.Path.{◌≡◌, refl, sym, ap, ◌∙◌}
 use mathlib.Core.Bool.{Bool, true, false, cond}
 use mathlib.Core.List.{List}
-use mathlib.Core.Option.{Option, none, some}
 use Prim.Native.Nat.{ℕ, zero, suc, ◌+◌, ◌-◌, ◌*◌, ◌/◌, ◌%◌, ◌^◌, ◌≤◌, ◌<◌}
 use native.Mathlib.Nat.{mul-le-mul_right, suc-mul}
 use native.Mathlib.Omega.{arith}
@@ -11,7 +11,7 @@ use lib.Dec.{lit<}
 use lib.ListN.{length}
 use Rattle.sections.specs.Edit.{overwrite}
 use Rattle.vertices.specs.Types.{size_of}
-use Rattle.vertices.specs.Declaration.{component_at, component_of, components_of, found_component, odd}
+use Rattle.vertices.specs.Declaration.{component_at, component_of, components_of, odd}
 use Rattle.vertices.specs.Unified.{shown, unified_vertex, run_of, unified_run, vertices_inside, stated, Unified}
 use Rattle.vertices.specs.Inner.Plan.{plan_of, planned, planned_vertex, Inside, Ends, Readable}
 use Rattle.vertices.specs.declared.types.VertexComponent.{VertexComponent}
@@ -19,8 +19,9 @@ use Rattle.vertices.specs.declared.types.VertexComponentType.{VertexComponentTyp
 use Rattle.vertices.specs.declared.attribute.VertexAttributeValue.{VertexAttributeValue}
 use Rattle.vertices.specs.declared.declaration.VertexDeclaration.{VertexDeclaration}
 use Rattle.vertices.specs.declared.unify.UnifiedVertex.{UnifiedVertex}
-use Rattle.vertices.specs.declared.unify.UnifyAnswer.{UnifyAnswer}
-use Rattle.vertices.specs.declared.unify.UnifyAnswer.TheVariants.{Written, OutsideData, NeedsBytes}
+use Rattle.std.specs.Prelude.{Result, Ok, Err}
+use Rattle.vertices.specs.declared.unify.UnifyError.{UnifyError}
+use Rattle.vertices.specs.declared.unify.UnifyError.TheVariants.{OutsideData, NeedsBytes}
 use Rattle.vertices.proofs.ComponentLaws.{item, component-among, component_is}
 use Rattle.vertices.proofs.UnifiedChecks.{Within, true_vertices, Vertices-true}
 
@@ -28,10 +29,10 @@ use Rattle.vertices.proofs.UnifiedChecks.{Within, true_vertices, Vertices-true}
 
 -- a field by the plan is the field
 planned-shown : {A : Type 0} (see : VertexComponentType → VertexAttributeValue → A) (default : A) (s : List ℕ) (base : ℕ) (o : Option VertexComponent)
-    → planned see default s base (found_component o) ≡ shown see default s base o
+    → planned see default s base (o) ≡ shown see default s base o
 unfolding planned
-planned-shown see default s base none = refl
-planned-shown see default s base (some c) = refl
+planned-shown see default s base None = refl
+planned-shown see default s base (Some c) = refl
 
 -- so a vertex by the plan is the vertex
 pub planned_vertex_lem : (d : VertexDeclaration) (s : List ℕ) (base : ℕ) → planned_vertex (plan_of d) s base ≡ unified_vertex d s base
@@ -62,25 +63,25 @@ planned-run d s stride count = run-same _ _ (λ i. planned_vertex_lem d s (i * s
 -- ---- reading inside the data
 
 -- a component's size is its type's
-Found-size : (d : VertexDeclaration) (index : ℕ) → index < 16 → (c : VertexComponent) → component_of d index ≡ some c → c.size ≡ size_of c.component_type
+Found-size : (d : VertexDeclaration) (index : ℕ) → index < 16 → (c : VertexComponent) → component_of d index ≡ Some c → c.size ≡ size_of c.component_type
 Found-size d index h c e = chosen (odd (d.flags / 2 ^ index)) index (d.types / 16 ^ index % 16) _ (sym (component_is d index h) ∙ e)
   where
-    chosen : (b : Bool) (i n o : ℕ) → cond b (some (component_at i n o)) none ≡ some c → c.size ≡ size_of c.component_type
+    chosen : (b : Bool) (i n o : ℕ) → cond b (Some (component_at i n o)) None ≡ Some c → c.size ≡ size_of c.component_type
     chosen true i n o f = let q : component_at i n o ≡ c = cc in rw (← q)
     chosen false i n o f = let z : ◌≡◌ {A = ℕ} 0 1 = cc in absurd (omega arith)
 
 module _ (d : VertexDeclaration) (base n : ℕ) (w : Within (components_of d) base n) where
-  found_inside : (index : ℕ) → index < 16 → (c : VertexComponent) → component_of d index ≡ some c → Inside c base n
+  found_inside : (index : ℕ) → index < 16 → (c : VertexComponent) → component_of d index ≡ Some c → Inside c base n
   found_inside index h c e =
       let a = component-among d index c e in
       record { size = Found-size d index h c e; ends = rw a.2 at (w a.0 a.1) }
 
-  Found-ends : (index : ℕ) → index < 16 → Ends (found_component (component_of d index)) base n
+  Found-ends : (index : ℕ) → index < 16 → Ends ((component_of d index)) base n
   Found-ends index h = either (component_of d index) (found_inside index h)
     where
-      either : (o : Option VertexComponent) → ((c : VertexComponent) → o ≡ some c → Inside c base n) → Ends (found_component o) base n
-      either none f = tt
-      either (some c) f = f c refl
+      either : (o : Option VertexComponent) → ((c : VertexComponent) → o ≡ Some c → Inside c base n) → Ends (o) base n
+      either None f = tt
+      either (Some c) f = f c refl
 
   -- each component that the plan names is inside, where all of the vertex's are
   pub plan_readable : Readable (plan_of d) base n
@@ -100,18 +101,18 @@ module _ (d : VertexDeclaration) (base n : ℕ) (w : Within (components_of d) ba
 
 module _ {d : VertexDeclaration} {s : List ℕ} {stride count : ℕ} {out : List ℕ} where
   -- check 9 fails
-  pub Unified-outside : vertices_inside d (length s) stride count ≡ false → Unified d s stride count out OutsideData out
+  pub Unified-outside : vertices_inside d (length s) stride count ≡ false → Unified d s stride count out (Err OutsideData) out
   Unified-outside e = record { answer = rw e; bytes = rw e }
 
   -- check 10 fails
-  pub Unified-short : vertices_inside d (length s) stride count ≡ true → length out < 84 * count → Unified d s stride count out (NeedsBytes (84 * count)) out
+  pub Unified-short : vertices_inside d (length s) stride count ≡ true → length out < 84 * count → Unified d s stride count out (Err (NeedsBytes (84 * count))) out
   Unified-short e h =
       let no = lt-leb (0 + 84 * count) (length out) (omega arith) in
       record { answer = rw (e, no); bytes = rw (e, no) }
 
   -- accepted
   pub Unified-written : {t : List ℕ} → vertices_inside d (length s) stride count ≡ true → 84 * count ≤ length out → t ≡ overwrite out 0 (unified_run d s stride count)
-      → Unified d s stride count out (Written (84 * count)) t
+      → Unified d s stride count out (Ok (84 * count)) t
   Unified-written e h f =
       let ok = le-leb (0 + 84 * count) (length out) (omega arith) in
       record { answer = rw (e, ok); bytes = rw (e, ok) f }
@@ -124,8 +125,8 @@ InsideStride d stride =
     (i : ℕ) → i < length (components_of d) → 0 < (item (components_of d) i).size → (item (components_of d) i).offset + (item (components_of d) i).size ≤ stride
 
 -- Of count × stride bytes, with room in out: they unify to 84 × count bytes exactly when each component of nonzero size ends within the stride.
-pub record Exactly (d : VertexDeclaration) (s : List ℕ) (stride count : ℕ) (out : List ℕ) (r : UnifyAnswer) (t : List ℕ) : Type 0 where
-  pub gives : InsideStride d stride → (r ≡ Written (84 * count)) × (t ≡ overwrite out 0 (unified_run d s stride count))
+pub record Exactly (d : VertexDeclaration) (s : List ℕ) (stride count : ℕ) (out : List ℕ) (r : Result ℕ UnifyError) (t : List ℕ) : Type 0 where
+  pub gives : InsideStride d stride → (r ≡ Ok (84 * count)) × (t ≡ overwrite out 0 (unified_run d s stride count))
   pub only : (stated r).0 ≡ 0 → InsideStride d stride
 
 module _ (d : VertexDeclaration) (s : List ℕ) (stride count : ℕ) (whole : length s ≡ count * stride) (some-count : 0 < count) where
@@ -144,7 +145,7 @@ module _ (d : VertexDeclaration) (s : List ℕ) (stride count : ℕ) (whole : le
       omega (arith, Vertices-true d (length s) stride count e (count - 1) (omega arith) i l p)
 
   -- they give count vertices exactly when each component of nonzero size ends within the stride
-  pub unify_exactly : (out : List ℕ) → 84 * count ≤ length out → (r : UnifyAnswer) (t : List ℕ) → Unified d s stride count out r t → Exactly d s stride count out r t
+  pub unify_exactly : (out : List ℕ) → 84 * count ≤ length out → (r : Result ℕ UnifyError) (t : List ℕ) → Unified d s stride count out r t → Exactly d s stride count out r t
   unify_exactly out room r t u =
       let ok = le-leb (0 + 84 * count) (length out) (omega arith) in
       record {
@@ -152,10 +153,10 @@ module _ (d : VertexDeclaration) (s : List ℕ) (stride count : ℕ) (whole : le
         only = λ e. inside_stride_lem (accepted (vertices_inside d (length s) stride count) _ (sym (ap (λ (x : ℕ × ℕ). x.0) u.answer) ∙ e));
       }
     where
-      written : (r : UnifyAnswer) → stated r ≡ (0, 84 * count) → r ≡ Written (84 * count)
-      written (Written n) e = ap (λ (m : ℕ). Written m) (ap (λ (x : ℕ × ℕ). x.1) e)
-      written OutsideData e = absurd (omega (arith, ap (λ (x : ℕ × ℕ). x.0) e))
-      written (NeedsBytes n) e = absurd (omega (arith, ap (λ (x : ℕ × ℕ). x.0) e))
+      written : (r : Result ℕ UnifyError) → stated r ≡ (0, 84 * count) → r ≡ Ok (84 * count)
+      written (Ok n) e = ap (λ (m : ℕ). Ok m) (ap (λ (x : ℕ × ℕ). x.1) e)
+      written (Err OutsideData) e = absurd (omega (arith, ap (λ (x : ℕ × ℕ). x.0) e))
+      written (Err (NeedsBytes n)) e = absurd (omega (arith, ap (λ (x : ℕ × ℕ). x.0) e))
 
       accepted : (b : Bool) (x : ℕ × ℕ) → (cond b x (9, 0)).0 ≡ 0 → b ≡ true
       accepted true x e = refl

@@ -6,7 +6,10 @@ use Prim.Native.Nat.{ℕ, ◌*◌}
 use lib.Dec.{T, eqb, eqb→eq}
 use lib.ListN.{replicate}
 use Rattle.vertices.specs.Declaration.{position_only}
-use Rattle.vertices.specs.Attribute.{attributes_of}
+use Rattle.std.specs.Prelude.{Result, Ok, Err}
+use Rattle.vertices.specs.Attribute.{attribute_check, attributes_of}
+use Rattle.vertices.specs.declared.attribute.VertexAttribute.{VertexAttribute}
+use Rattle.vertices.specs.declared.attributes.AttributeError.{AttributeError}
 use Rattle.vertices.specs.Unified.{vertices_inside}
 use Rattle.vertices.specs.Half.{f16_to_f32, f32_to_f16}
 use Rattle.vertices.specs.Normalised.{snorm8_to_f32}
@@ -37,9 +40,14 @@ tested (row convert input output ∷ rows) t =
     let ts = both (eqb (convert input) output) (test rows) t in
     (eqb→eq (convert input) output ts.0, tested rows ts.1)
 
+-- the check that refuses, 0 where none does
+abbrev pub refusal_number : Result (List VertexAttribute) AttributeError → ℕ
+refusal_number (Ok list) = 0
+refusal_number (Err e) = attribute_check e
+
 -- the check that refuses attribute `index` of two vertices of 11 bytes that have a position alone, 0 where none does
 unfoldable pub position_refusal : ℕ → ℕ
-position_refusal index = (attributes_of (replicate 22 0) 11 2 (position_only 11) index).refusal
+position_refusal index = refusal_number (attributes_of (replicate 22 0) 11 2 (position_only 11) index)
 
 -- the check that refuses to unify two such vertices of `stride` bytes, 0 where none does
 unfoldable pub unify_refusal : ℕ → ℕ

@@ -1,10 +1,10 @@
 -- Attribute values: how a component is read, and how its value is seen as a vector or a colour (document 01, "A value is one float, ..").
-use Rattle.std.specs.Prelude.{Bool, true, cond, ◌&&◌, ◌||◌, List, [], ◌∷◌, ◌++◌, map, ℕ, ◌+◌, ◌*◌, ◌-◌, eqb, leb, ltb, length, replicate}
+use Rattle.std.specs.Prelude.{Bool, true, cond, ◌&&◌, ◌||◌, List, [], ◌∷◌, map, ℕ, ◌+◌, ◌*◌, eqb, leb, ltb, length, Result, Ok, Err}
 use Rattle.sections.specs.Le.{field}
 use Rattle.vertices.specs.Half.{f16_to_f32}
 use Rattle.vertices.specs.Normalised.{snorm8_to_f32, unorm8_to_f32, f32_to_unorm8, snorm_colour8}
 use Rattle.vertices.specs.Types.{size_of}
-use Rattle.vertices.specs.Declaration.{components_of, empty_component}
+use Rattle.vertices.specs.Declaration.{components_of}
 use Rattle.vertices.specs.declared.values.F32.{F32}
 use Rattle.vertices.specs.declared.values.Vec2.{Vec2}
 use Rattle.vertices.specs.declared.values.Vec3.{Vec3}
@@ -15,9 +15,10 @@ use Rattle.vertices.specs.declared.types.VertexComponentType.TheVariants.{Nothin
 use Rattle.vertices.specs.declared.types.VertexComponent.{VertexComponent}
 use Rattle.vertices.specs.declared.declaration.VertexDeclaration.{VertexDeclaration}
 use Rattle.vertices.specs.declared.attribute.VertexAttribute.{VertexAttribute}
-use Rattle.vertices.specs.declared.attribute.VertexAttributes.{VertexAttributes}
 use Rattle.vertices.specs.declared.attribute.VertexAttributeValue.{VertexAttributeValue}
 use Rattle.vertices.specs.declared.attribute.VertexAttributeValue.TheVariants.{One, Two, Three, Four, Bytes, Unsupported}
+use Rattle.vertices.specs.declared.attributes.AttributeError.{AttributeError}
+use Rattle.vertices.specs.declared.attributes.AttributeError.TheVariants.{NoSuchVertex, ComponentOutside}
 
 -- a float of these bits
 abbrev pub bits : ℕ → F32
@@ -143,20 +144,17 @@ all_inside n base (c ∷ cs) = component_inside n base c && all_inside n base cs
 abbrev pub attribute_at : List ℕ → ℕ → VertexComponent → VertexAttribute
 attribute_at s base c = record { component = c; value = value_at c.component_type s (base + c.offset) }
 
--- what fills an array of attributes up
-abbrev pub empty_attribute : VertexAttribute
-empty_attribute = record { component = empty_component; value = Unsupported }
-
--- attributes as an array of 16 and a count, beside the number of the check that failed or 0
-unfoldable pub attribute_list : ℕ → List VertexAttribute → VertexAttributes
-attribute_list refusal items = record { refusal = refusal; items = items ++ replicate (16 - length items) empty_attribute; count = length items }
+-- the check that an error is about
+abbrev pub attribute_check : AttributeError → ℕ
+attribute_check NoSuchVertex = 8
+attribute_check ComponentOutside = 9
 
 -- the attributes of the vertex that begins at `base`: refused by check 9, or each component in order
-unfoldable pub attributes_at : List ℕ → ℕ → List VertexComponent → VertexAttributes
-unfolding all_inside attribute_list
-attributes_at s base cs = cond (all_inside (length s) base cs) (attribute_list 0 (map (attribute_at s base) cs)) (attribute_list 9 [])
+unfoldable pub attributes_at : List ℕ → ℕ → List VertexComponent → Result (List VertexAttribute) AttributeError
+unfolding all_inside
+attributes_at s base cs = cond (all_inside (length s) base cs) (Ok (map (attribute_at s base) cs)) (Err ComponentOutside)
 
 -- the attributes of the vertex `index` of `count`: refused by check 8 where there is none
-unfoldable pub attributes_of : List ℕ → ℕ → ℕ → VertexDeclaration → ℕ → VertexAttributes
-unfolding attributes_at attribute_list
-attributes_of s stride count d index = cond (ltb index count) (attributes_at s (index * stride) (components_of d)) (attribute_list 8 [])
+unfoldable pub attributes_of : List ℕ → ℕ → ℕ → VertexDeclaration → ℕ → Result (List VertexAttribute) AttributeError
+unfolding attributes_at
+attributes_of s stride count d index = cond (ltb index count) (attributes_at s (index * stride) (components_of d)) (Err NoSuchVertex)

@@ -1,15 +1,10 @@
 -- Vertex declarations and their components (document 01, "Vertices": "Declaration, 16 bytes").
-use Rattle.std.specs.Prelude.{Bool, cond, List, [], ◌∷◌, ◌++◌, ℕ, zero, suc, ◌+◌, ◌*◌, ◌/◌, ◌%◌, ◌-◌, ◌^◌, ◌<◌, eqb, length, replicate}
-use Rattle.std.proofs.Math.Option.{Option, none, some}
+use Rattle.std.specs.Prelude.{Option, None, Some}
+use Rattle.std.specs.Prelude.{Bool, cond, List, [], ◌∷◌, ◌++◌, ℕ, zero, suc, ◌+◌, ◌*◌, ◌/◌, ◌%◌, ◌^◌, ◌<◌, eqb}
 use Rattle.sections.specs.Le.{field, bytes}
 use Rattle.vertices.specs.Types.{component_type_of, size_of, count_of, semantic_of}
-use Rattle.vertices.specs.declared.types.VertexComponentType.TheVariants.{Nothing}
-use Rattle.vertices.specs.declared.types.VertexSemantic.TheVariants.{Position}
 use Rattle.vertices.specs.declared.types.VertexComponent.{VertexComponent}
 use Rattle.vertices.specs.declared.declaration.VertexDeclaration.{VertexDeclaration}
-use Rattle.vertices.specs.declared.declaration.ComponentList.{ComponentList}
-use Rattle.vertices.specs.declared.declaration.FoundComponent.{FoundComponent}
-use Rattle.vertices.specs.declared.declaration.FoundComponent.TheVariants.{Component, Missing}
 
 -- ---- 16 bytes
 
@@ -55,14 +50,6 @@ components_from (suc k) index flags types offset =
 unfoldable pub components_of : VertexDeclaration → List VertexComponent
 components_of d = components_from 16 0 d.flags d.types 0
 
--- what fills an array of components up
-abbrev pub empty_component : VertexComponent
-empty_component = record { semantic = Position; semantic_index = 0; component_type = Nothing; offset = 0; size = 0; component_count = 0 }
-
--- components as an array of 16 and a count
-unfoldable pub component_list : List VertexComponent → ComponentList
-component_list cs = record { items = cs ++ replicate (16 - length cs) empty_component; count = length cs }
-
 -- the bytes of components
 unfoldable pub sizes : List VertexComponent → ℕ
 sizes [] = 0
@@ -74,17 +61,12 @@ total_size d = sizes (components_of d)
 
 -- the first component with this semantic number
 unfoldable pub with_index : ℕ → List VertexComponent → Option VertexComponent
-with_index index [] = none
-with_index index (c ∷ cs) = cond (eqb c.semantic_index index) (some c) (with_index index cs)
+with_index index [] = None
+with_index index (c ∷ cs) = cond (eqb c.semantic_index index) (Some c) (with_index index cs)
 
 -- the component of a semantic's number, where its flag is one of the 16 and set
 unfoldable pub component_of : VertexDeclaration → ℕ → Option VertexComponent
 component_of d index = with_index index (components_of d)
-
--- that as the code's answer
-abbrev pub found_component : Option VertexComponent → FoundComponent
-found_component none = Missing
-found_component (some c) = Component c
 
 -- ---- id
 

@@ -2,3 +2,4 @@
 pub mod Small
 pub mod Plan
 pub mod Lanes
+pub mod Capped

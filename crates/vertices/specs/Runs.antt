@@ -2,8 +2,8 @@
 use Rattle.std.specs.Prelude.{◌≡◌, cond, List, [], ◌∷◌, ◌++◌, map, ℕ, zero, suc, ◌*◌, ◌/◌, length, take, drop}
 use Rattle.sections.specs.Edit.{overwrite, fits}
 use Rattle.sections.specs.Le.{le, bytes}
-use Rattle.vertices.specs.declared.runs.RunAnswer.{RunAnswer}
-use Rattle.vertices.specs.declared.runs.RunAnswer.TheVariants.{Written, Needs}
+use Rattle.std.specs.Prelude.{Result, Ok, Err}
+use Rattle.vertices.specs.declared.runs.NeedsBytes.{NeedsBytes}
 
 -- the first n numbers of k bytes each in s
 unfoldable pub numbers : ℕ → ℕ → List ℕ → List ℕ
@@ -22,6 +22,6 @@ converted k m f n s = run m (map f (numbers k n s))
 
 -- What the conversion of all whole numbers of s answers, r, and leaves of d, t: the bytes written from d's start on, or those needed where d is
 -- too short, and then d is unchanged.
-pub record Converted (k m : ℕ) (f : ℕ → ℕ) (s d : List ℕ) (r : RunAnswer) (t : List ℕ) : Type 0 where
-  pub answer : r ≡ cond (fits d 0 (length s / k * m)) (Written (length s / k * m)) (Needs (length s / k * m))
+pub record Converted (k m : ℕ) (f : ℕ → ℕ) (s d : List ℕ) (r : Result ℕ NeedsBytes) (t : List ℕ) : Type 0 where
+  pub answer : r ≡ cond (fits d 0 (length s / k * m)) (Ok (length s / k * m)) (Err (record { 0 = length s / k * m }))
   pub bytes : t ≡ cond (fits d 0 (length s / k * m)) (overwrite d 0 (converted k m f (length s / k) s)) d

@@ -1,6 +1,6 @@
 -- Unified vertices (document 01, "A unified vertex is one struct of floats and bytes, 84 bytes when written out in field order"; checks 9 and 10).
+use Rattle.std.specs.Prelude.{Option, None, Some}
 use Rattle.std.specs.Prelude.{◌≡◌, Bool, true, false, cond, ◌&&◌, List, [], ◌∷◌, ◌++◌, ℕ, zero, suc, ◌+◌, ◌*◌, length}
-use Rattle.std.proofs.Math.Option.{Option, none, some}
 use Rattle.sections.specs.Edit.{overwrite, fits}
 use Rattle.vertices.specs.Declaration.{component_of, components_of}
 use Rattle.vertices.specs.Runs.{run}
@@ -15,8 +15,9 @@ use Rattle.vertices.specs.declared.types.VertexComponentType.TheVariants.{Nothin
 use Rattle.vertices.specs.declared.attribute.VertexAttributeValue.{VertexAttributeValue}
 use Rattle.vertices.specs.declared.declaration.VertexDeclaration.{VertexDeclaration}
 use Rattle.vertices.specs.declared.unify.UnifiedVertex.{UnifiedVertex}
-use Rattle.vertices.specs.declared.unify.UnifyAnswer.{UnifyAnswer}
-use Rattle.vertices.specs.declared.unify.UnifyAnswer.TheVariants.{Written, OutsideData, NeedsBytes}
+use Rattle.std.specs.Prelude.{Result, Ok, Err}
+use Rattle.vertices.specs.declared.unify.UnifyError.{UnifyError}
+use Rattle.vertices.specs.declared.unify.UnifyError.TheVariants.{OutsideData, NeedsBytes}
 
 -- ---- one vertex
 
@@ -45,8 +46,8 @@ as_indices t v = cond (holds_indices t) (as_rgba8 t v) no_indices
 
 -- what a field shows of the vertex at `base`: the component's value, seen in the field's way, or the default where none is declared
 abbrev pub shown : {A : Type 0} → (VertexComponentType → VertexAttributeValue → A) → A → List ℕ → ℕ → Option VertexComponent → A
-shown see default s base none = default
-shown see default s base (some c) = see c.component_type (value_at c.component_type s (base + c.offset))
+shown see default s base None = default
+shown see default s base (Some c) = see c.component_type (value_at c.component_type s (base + c.offset))
 
 -- zero in every place
 abbrev pub zero_vec2 : Vec2
@@ -119,12 +120,12 @@ vertices_inside d n stride (suc count) = vertices_inside d n stride count && all
 -- ---- the answer
 
 -- document 01's number of an answer, 0 where it accepts, and the bytes written or needed
-abbrev pub stated : UnifyAnswer → ℕ × ℕ
-stated (Written n) = (0, n)
-stated OutsideData = (9, 0)
-stated (NeedsBytes n) = (10, n)
+abbrev pub stated : Result ℕ UnifyError → ℕ × ℕ
+stated (Ok n) = (0, n)
+stated (Err OutsideData) = (9, 0)
+stated (Err (NeedsBytes n)) = (10, n)
 
 -- What unifying s answers, r, and leaves of out, t: 9 before 10, and a refusal leaves out as it was.
-pub record Unified (d : VertexDeclaration) (s : List ℕ) (stride count : ℕ) (out : List ℕ) (r : UnifyAnswer) (t : List ℕ) : Type 0 where
+pub record Unified (d : VertexDeclaration) (s : List ℕ) (stride count : ℕ) (out : List ℕ) (r : Result ℕ UnifyError) (t : List ℕ) : Type 0 where
   pub answer : stated r ≡ cond (vertices_inside d (length s) stride count) (cond (fits out 0 (84 * count)) (0, 84 * count) (10, 84 * count)) (9, 0)
   pub bytes : t ≡ cond (vertices_inside d (length s) stride count && fits out 0 (84 * count)) (overwrite out 0 (unified_run d s stride count)) out

@@ -9,7 +9,7 @@ ghost use Rattle.vertices.specs.Normalised.{number};
 pub fn f16_to_f32(value: u16) -> u32
     ensures { result ≡ f16_to_f32 value }
 {
-    let bits = value as u32;
+    let bits = u32::from(value);
     bits / 0x8000 * 0x8000_0000 + float_below_sign(bits % 0x8000)
 }
 
@@ -23,6 +23,7 @@ fn float_below_sign(rest: u32) -> u32
     f32::to_bits(moved + not_above_zero(moved - 0.00006103515625)) + all_ones(rest)
 }
 
+// `f32::min` makes a second comparison, for a NaN: 1.2 times the time in a loop.
 fn not_above_zero(x: f32) -> f32
     ensures { result ≡ cond (lt x (number 0)) x (number 0) }
 {
@@ -46,8 +47,7 @@ fn all_ones(rest: u32) -> u32
 pub fn f32_to_f16(bits: u32) -> u16
     ensures { result ≡ f32_to_f16 bits }
 {
-    let sign = bits / 0x8000_0000 * 0x8000;
-    (sign + half_below_sign(bits % 0x8000_0000)) as u16
+    with_sign(bits, half_below_sign(bits % 0x8000_0000))
 }
 
 // The same for a float below 65,536 in size.
@@ -55,8 +55,15 @@ pub fn small_f32_to_f16(bits: u32) -> u16
     requires { bits % 2147483648 < 1199570944 }
     ensures { result ≡ f32_to_f16 bits }
 {
-    let sign = bits / 0x8000_0000 * 0x8000;
-    (sign + half_of_small(bits % 0x8000_0000)) as u16
+    with_sign(bits, half_of_small(bits % 0x8000_0000))
+}
+
+// The sign of a float before the half of what is below it.
+fn with_sign(bits: u32, rest: u32) -> u16
+    requires { rest ≡ encoded (bits % 2147483648) }
+    ensures { result ≡ f32_to_f16 bits }
+{
+    (bits / 0x8000_0000 * 0x8000 + rest) as u16
 }
 
 fn half_below_sign(rest: u32) -> u32

@@ -1,19 +1,10 @@
-// Numbers at a place that is known to lie inside the slice. Each is read byte by byte: the compiler makes one load of that.
-ghost use Rattle.std.specs.Prelude.{◌≡◌, ◌+◌, ◌≤◌, ◌<◌, length};
-ghost use Rattle.sections.specs.Edit.{part};
-ghost use Rattle.sections.specs.Le.{le, field};
+// Numbers at a place that is known to lie inside the slice. Of this crate: what another crate calls asks nothing of its caller.
+#![tactic(auto, using(crate::proofs::ByteRunLaws::byte_steps))]
 
-fn wide_u16(b: u8) -> u16
-    ensures { (result ≡ b) × (result < 256) }
-{
-    b as u16
-}
-
-fn wide_u32(b: u8) -> u32
-    ensures { (result ≡ b) × (result < 256) }
-{
-    b as u32
-}
+ghost use Rattle.std.specs.Prelude.{◌≡◌, ℕ, ◌<◌, ◌+◌, ◌≤◌, length};
+ghost use Rattle.std.proofs.Common.{rules};
+ghost use Rattle.sections.specs.Edit.{part, overwrite};
+ghost use Rattle.sections.specs.Le.{le, bytes, field};
 
 pub fn u8_at(b: &[u8], off: usize) -> u8
     requires { off + 1 ≤ length b.now }
@@ -26,15 +17,99 @@ pub fn u16_at(b: &[u8], off: usize) -> u16
     requires { off + 2 ≤ length b.now }
     ensures { result ≡ le (part b.now off 2) }
 {
-    wide_u16(b[off]) + 256 * wide_u16(b[off + 1])
+    u16::from_le_bytes([b[off], b[off + 1]])
 }
 
 pub fn u32_at(b: &[u8], off: usize) -> u32
     requires { off + 4 ≤ length b.now }
     ensures { result ≡ le (part b.now off 4) }
 {
-    wide_u32(b[off])
-        + 256 * wide_u32(b[off + 1])
-        + 65536 * wide_u32(b[off + 2])
-        + 16777216 * wide_u32(b[off + 3])
+    u32::from_le_bytes([b[off], b[off + 1], b[off + 2], b[off + 3]])
+}
+
+pub fn set_u16(b: &mut [u8], off: usize, v: u16)
+    requires { off + 2 ≤ length b.old }
+    ensures { b.new ≡ overwrite b.old off (bytes 2 v) }
+{
+    b[off..off + 2].copy_from_slice(&v.to_le_bytes());
+}
+
+pub fn set_u32(b: &mut [u8], off: usize, v: u32)
+    requires { off + 4 ≤ length b.old }
+    ensures { b.new ≡ overwrite b.old off (bytes 4 v) }
+{
+    b[off..off + 4].copy_from_slice(&v.to_le_bytes());
+}
+
+// A number stored as its little-endian bytes.
+pub trait Stored: Copy {
+    ghost WIDTH: { ℕ };
+
+    const WIDTH: usize;
+
+    ghost number: { Self → ℕ };
+
+    fn get(b: &[u8], off: usize) -> Self
+        requires { off + WIDTH ≤ length b.now }
+        ensures { number result ≡ le (part b.now off WIDTH) };
+
+    fn set(self, b: &mut [u8], off: usize)
+        requires { off + WIDTH ≤ length b.old }
+        ensures { b.new ≡ overwrite b.old off (bytes WIDTH (number self)) };
+
+    ghost some_bytes: { 0 < WIDTH };
+}
+
+impl Stored for u8 {
+    ghost WIDTH = { 1 };
+
+    const WIDTH: usize = 1;
+
+    ghost number = { λ x. x };
+
+    ghost some_bytes = { Prim.search rules };
+
+    fn get(b: &[u8], off: usize) -> u8 {
+        b[off]
+    }
+
+    fn set(self, b: &mut [u8], off: usize) {
+        b[off] = self;
+    }
+}
+
+impl Stored for u16 {
+    ghost WIDTH = { 2 };
+
+    const WIDTH: usize = 2;
+
+    ghost number = { λ x. x };
+
+    ghost some_bytes = { Prim.search rules };
+
+    fn get(b: &[u8], off: usize) -> u16 {
+        u16_at(b, off)
+    }
+
+    fn set(self, b: &mut [u8], off: usize) {
+        set_u16(b, off, self);
+    }
+}
+
+impl Stored for u32 {
+    ghost WIDTH = { 4 };
+
+    const WIDTH: usize = 4;
+
+    ghost number = { λ x. x };
+
+    ghost some_bytes = { Prim.search rules };
+
+    fn get(b: &[u8], off: usize) -> u32 {
+        u32_at(b, off)
+    }
+
+    fn set(self, b: &mut [u8], off: usize) {
+        set_u32(b, off, self);
+    }
 }

@@ -3,7 +3,7 @@ ghost use Rattle.std.specs.Prelude.{◌≡◌};
 ghost use Rattle.vertices.specs.Types.{component_type_of, nibble_of, size_of, count_of, semantic_of};
 
 // The type of a component. The declaration stores it as a number of 4 bits.
-#[derive(Clone, Copy)]
+#[derive(Clone, Copy, Debug, PartialEq, Eq)]
 pub enum VertexComponentType {
     Nothing,
     Half2,
@@ -20,7 +20,7 @@ pub enum VertexComponentType {
 }
 
 // What a component is for. Its number is that of its flag.
-#[derive(Clone, Copy)]
+#[derive(Clone, Copy, Debug, PartialEq, Eq)]
 pub enum VertexSemantic {
     Position,
     BlendWeights,
@@ -41,8 +41,8 @@ pub enum VertexSemantic {
     Unknown(u8),
 }
 
-// One component of every vertex: offset and size are in bytes, component_count is its number of values.
-#[derive(Clone, Copy)]
+// One component of every vertex, with the fields of the original: offset and size are in bytes, component_count is its number of values.
+#[derive(Clone, Copy, Debug, PartialEq, Eq)]
 pub struct VertexComponent {
     pub semantic: VertexSemantic,
     pub semantic_index: u8,
@@ -53,6 +53,7 @@ pub struct VertexComponent {
 }
 
 impl VertexComponentType {
+    #[tactic(auto, using(crate::proofs::TypeLaws::unknown_type), unfolding(crate::specs::Types::component_type_of))]
     pub fn from_nibble(value: u8) -> Self
         ensures { result ≡ component_type_of value }
     {
@@ -68,8 +69,6 @@ impl VertexComponentType {
             8 => Self::UByte4,
             9 => Self::Colour,
             10 => Self::Rgba8Snorm,
-            11..=15 => Self::Unknown(value),
-            // No nibble.
             _ => Self::Unknown(value),
         }
     }
@@ -97,18 +96,11 @@ impl VertexComponentType {
         ensures { result ≡ size_of self }
     {
         match self {
-            Self::Nothing => 0,
-            Self::Half2 => 4,
-            Self::Float => 4,
-            Self::Half4 => 8,
-            Self::FloatUnknown => 0,
-            Self::Float2 => 8,
+            Self::Half2 | Self::Float | Self::UByte4 | Self::Colour | Self::Rgba8Snorm => 4,
+            Self::Half4 | Self::Float2 => 8,
             Self::Float3 => 12,
             Self::Float4 => 16,
-            Self::UByte4 => 4,
-            Self::Colour => 4,
-            Self::Rgba8Snorm => 4,
-            Self::Unknown(_) => 0,
+            Self::Nothing | Self::FloatUnknown | Self::Unknown(_) => 0,
         }
     }
 
@@ -117,23 +109,17 @@ impl VertexComponentType {
         ensures { result ≡ count_of self }
     {
         match self {
-            Self::Nothing => 0,
-            Self::Half2 => 2,
             Self::Float => 1,
-            Self::Half4 => 4,
-            Self::FloatUnknown => 0,
-            Self::Float2 => 2,
+            Self::Half2 | Self::Float2 => 2,
             Self::Float3 => 3,
-            Self::Float4 => 4,
-            Self::UByte4 => 4,
-            Self::Colour => 4,
-            Self::Rgba8Snorm => 4,
-            Self::Unknown(_) => 0,
+            Self::Half4 | Self::Float4 | Self::UByte4 | Self::Colour | Self::Rgba8Snorm => 4,
+            Self::Nothing | Self::FloatUnknown | Self::Unknown(_) => 0,
         }
     }
 }
 
 impl VertexSemantic {
+    #[tactic(auto, using(crate::proofs::TypeLaws::unknown_semantic), unfolding(crate::specs::Types::semantic_of))]
     pub fn from_index(index: u8) -> Self
         ensures { result ≡ semantic_of index }
     {

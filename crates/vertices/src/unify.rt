@@ -1,13 +1,14 @@
 // Unified vertices: every vertex of a buffer in one form, 84 bytes when written out.
-ghost use Rattle.std.specs.Prelude.{◌≡◌, ℕ, ◌+◌, ◌-◌, ◌*◌, ◌≤◌, ◌<◌, min, length};
+ghost use Rattle.std.specs.Prelude.{◌≡◌, ℕ, ◌+◌, ◌-◌, ◌*◌, ◌≤◌, ◌<◌, length};
 ghost use Rattle.sections.specs.Edit.{overwrite};
 ghost use Rattle.vertices.specs.Unified.{vertices_inside, run_of, Unified};
 ghost use Rattle.vertices.specs.Inner.Plan.{plan_of, planned_vertex, Readable};
 ghost use Rattle.vertices.specs.Inner.Lanes.{BlockReady, BlockWritten, BlockBegun};
 
-use crate::declaration::{FoundComponent, VertexDeclaration};
+use crate::declaration::VertexDeclaration;
 use crate::lane::lane_of;
-use crate::strips::{Strip, base_of, write_strip};
+use crate::strips::{SIZE, Strip, base_of, write_strip};
+use crate::types::VertexComponent;
 use crate::values::{Bytes4, Vec2, Vec3, Vec4};
 use sections::copy_within;
 
@@ -24,10 +25,9 @@ pub struct UnifiedVertex {
     pub blend_indices: Bytes4,
 }
 
-// Both numbers count bytes. OutsideData: a component of some vertex does not end inside the data.
-#[derive(Clone, Copy)]
-pub enum UnifyAnswer {
-    Written(u64),
+// OutsideData: a component of some vertex does not end inside the data. NeedsBytes: how many an output that is too short would have to have.
+#[derive(Clone, Copy, Debug, PartialEq, Eq)]
+pub enum UnifyError {
     OutsideData,
     NeedsBytes(u64),
 }
@@ -35,19 +35,16 @@ pub enum UnifyAnswer {
 // The component behind each field. It depends on the declaration alone, and is found once for all vertices.
 #[derive(Clone, Copy)]
 pub struct UnifiedPlan {
-    pub position: FoundComponent,
-    pub normal: FoundComponent,
-    pub color0: FoundComponent,
-    pub color1: FoundComponent,
-    pub texcoord0: FoundComponent,
-    pub texcoord1: FoundComponent,
-    pub tangent: FoundComponent,
-    pub blend_weights: FoundComponent,
-    pub blend_indices: FoundComponent,
+    pub position: Option<VertexComponent>,
+    pub normal: Option<VertexComponent>,
+    pub color0: Option<VertexComponent>,
+    pub color1: Option<VertexComponent>,
+    pub texcoord0: Option<VertexComponent>,
+    pub texcoord1: Option<VertexComponent>,
+    pub tangent: Option<VertexComponent>,
+    pub blend_weights: Option<VertexComponent>,
+    pub blend_indices: Option<VertexComponent>,
 }
-
-// Bytes of a unified vertex.
-const SIZE: usize = 84;
 
 // Vertices that are written together.
 const BLOCK: usize = 48;
@@ -59,25 +56,25 @@ pub fn unified_vertices(
     vertex_count: u32,
     declaration: VertexDeclaration,
     out: &mut [u8],
-) -> UnifyAnswer
+) -> Result<u64, UnifyError>
     ensures { Unified declaration «data».now vertex_stride vertex_count out.old result out.new }
 {
     let count = vertex_count as usize;
     if !vertices_inside(declaration, data.len(), vertex_stride, vertex_count) {
-        return UnifyAnswer::OutsideData;
+        return Err(UnifyError::OutsideData);
     }
     if out.len() < SIZE * count {
-        return UnifyAnswer::NeedsBytes((SIZE * count) as u64);
+        return Err(UnifyError::NeedsBytes((SIZE * count) as u64));
     }
     unify_all(data, vertex_stride, count, plan_of(declaration), out);
-    UnifyAnswer::Written((SIZE * count) as u64)
+    Ok((SIZE * count) as u64)
 }
 
 // Whether every component of nonzero size of every vertex ends inside n bytes. It is enough to test the last vertex.
 fn vertices_inside(declaration: VertexDeclaration, n: usize, stride: u16, count: u32) -> bool
     ensures { result ≡ vertices_inside declaration n stride count }
 {
-    let total = declaration.size_in_bytes() as usize;
+    let total = usize::from(declaration.size_in_bytes());
     if count == 0 {
         return true;
     }
@@ -108,22 +105,12 @@ fn unify_all(data: &[u8], stride: u16, count: usize, plan: UnifiedPlan, out: &mu
     requires { (count < 4294967296) × (84 * count ≤ length out.old) × ((i : ℕ) → i < count → Readable plan (i * stride) (length «data».now)) }
     ensures { out.new ≡ overwrite out.old 0 (run_of (λ (i : ℕ). planned_vertex plan «data».now (i * stride)) count) }
 {
-    let mut i: usize = 0;
-    while i < count {
-        let end = i + at_most(count - i, BLOCK);
-        begin_block(out, i, end);
-        unify_block(data, stride, plan, out, i, end);
-        i = end;
+    for block in 0..count.div_ceil(BLOCK) {
+        let first = block * BLOCK;
+        let end = count.min(first + BLOCK);
+        begin_block(out, first, end);
+        unify_block(data, stride, plan, out, first, end);
     }
-}
-
-fn at_most(a: usize, b: usize) -> usize
-    ensures { result ≡ min a b }
-{
-    if a < b {
-        return a;
-    }
-    b
 }
 
 // A later block begins as a copy of the first, so that its constants stand.
@@ -149,14 +136,12 @@ fn unify_block(
     requires { BlockReady plan stride first end «data».now out.old }
     ensures { BlockWritten plan «data».now stride first end 21 out.old out.new }
 {
-    let mut j: usize = 0;
-    while j < 21 {
+    for j in 0..21 {
         let strip = Strip {
             first,
             end,
             word: j,
         };
         write_strip(data, stride, lane_of(plan, j), out, strip);
-        j += 1;
     }
 }

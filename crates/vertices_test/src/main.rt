@@ -11,25 +11,9 @@ use std::io::{self, BufWriter, Write};
 
 fn main(rt: HostRuntime) -> io::Result<()> {
     let mut out = BufWriter::new(rt.alloc(), io::writer(&rt))?;
-    compare(&rt, &mut out, Kind::Halves, "halves", "halves.bin")?;
-    compare(
-        &rt,
-        &mut out,
-        Kind::Neighbours,
-        "neighbours",
-        "neighbours.bin",
-    )?;
-    compare(
-        &rt,
-        &mut out,
-        Kind::HalfColours,
-        "half_colours",
-        "half_colours.bin",
-    )?;
-    compare(&rt, &mut out, Kind::Floats, "floats", "floats.bin")?;
-    compare(&rt, &mut out, Kind::Colours, "colours", "colours.bin")?;
-    compare(&rt, &mut out, Kind::Snorm, "snorm", "snorm.bin")?;
-    compare(&rt, &mut out, Kind::Unorm, "unorm", "unorm.bin")?;
+    for kind in Kind::ALL {
+        compare(&rt, &mut out, kind)?;
+    }
     let colour = vertices::snorm_colour8(vertices::snorm8_to_f32(0));
     writeln!(out, "snorm byte 0 as colour: {colour}")?;
     out.flush()

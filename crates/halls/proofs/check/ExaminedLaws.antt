@@ -12,14 +12,13 @@ use Rattle.halls.specs.Every.{every, sum_of}
 use Rattle.halls.specs.Checks.{same_numbers, mapping_matches, geometry_count, counts_within_limits, image_within_limit, verdict, judged, hall_verdict}
 use Rattle.halls.specs.Hall.{Hall}
 use Rattle.halls.specs.ImageSize.{geometry_size, image_size}
-use Rattle.halls.specs.Inner.Order.{passed, too_large, failing, verdict_of}
+use Rattle.halls.specs.Inner.Order.{passed, too_large, failing, check_of, verdict_of}
 use Rattle.halls.specs.Inner.Seeking.{Near}
 use Rattle.halls.specs.Parsing.{records_length, whole, follows, may_end, ordered, geometries_in, models_in, structured, parse}
 use Rattle.halls.specs.Records.{Record, records}
-use Rattle.halls.specs.Inner.Walk.{well_from, lowest_from, kind_count, units, units_from, left_of, before_of, Walked, limits_lowest, summary_of, findings_of, Examined, Surveyed, ExaminedFirst, SurveyedFirst}
-use Rattle.halls.specs.declared.check.check.Verdict.TheVariants.{Sound, Fails}
+use Rattle.halls.specs.Inner.Walk.{well_from, lowest_from, kind_count, units, units_from, left_of, before_of, Walked, limits_lowest, summary_of, Found}
+use Rattle.halls.specs.Verdict.{Sound, Fails}
 use Rattle.halls.specs.declared.check.pass.Mark.{Mark}
-use Rattle.halls.specs.declared.check.pass.Summary.{Summary}
 use Rattle.halls.specs.declared.check.pass.Findings.{Findings}
 use Rattle.halls.specs.declared.check.pass.Tally.{Tally}
 use Rattle.halls.proofs.check.LimitLaws.{whole_lowest, limits_of}
@@ -31,12 +30,9 @@ use Rattle.halls.proofs.check.WalkLaws.{is_empty_lem}
 
 -- ---- a record that is not a hall's
 
-pub Examined-stop : (s : List ℕ) (t : Tally) → structured s ≡ false → Examined s (summary_of 11 t)
+pub stopped : (s : List ℕ) → structured s ≡ false → judged (parse s) ≡ Fails 11
 unfolding parse
-Examined-stop s t e = record {
-  verdict = rw e;
-  counted = λ z. let y : Fails 11 ≡ Sound = rw e at z in let z : ◌≡◌ {A = ℕ} 0 1 = cc in absurd (omega arith);
-}
+stopped s e = rw e
 
 -- ---- all records passed
 
@@ -108,52 +104,34 @@ module _ (s : List ℕ) (below : (i : ℕ) → get_or s i 0 < 256) (t : Tally) (
   unfolding limits_lowest
   tally_limits = (limits_low (leb t.models 256 && leb t.geometries 16384) (leb (1 + units (8 * t.models) + t.units) 4194304)).0
 
-  pub Examined-end : (lowest : ℕ) → lowest ≡ min (min t.lowest (failing 12 (eqb t.left 0))) (limits_lowest t.models t.geometries t.units) → Examined s (summary_of lowest t)
-  Examined-end lowest e =
+  pub judged-as : (lowest : ℕ) → lowest ≡ min (min t.lowest (failing 12 (eqb t.left 0))) (limits_lowest t.models t.geometries t.units) → judged (parse s) ≡ verdict_of lowest
+  judged-as lowest e =
       let same : lowest ≡ min (lowest_of_models hall) (whole_lowest hall) = e ∙ rw lowest_is (both-limits (every mapping_matches hall) refl) in
-      record {
-        verdict = ap (λ (n : ℕ). verdict_of n) same ∙ verdict-lowest hall (structured-hall s below is-structured).exact_bytes ∙ sym verdict-is;
-        counted = λ z.
-            let m = (verdict-sound hall (sym verdict-is ∙ z)).mappings in
-            record { models = models_are; geometries = geometries-are; image = units-are m };
-      }
+      verdict-is ∙ sym (ap (λ (n : ℕ). verdict_of n) same ∙ verdict-lowest hall (structured-hall s below is-structured).exact_bytes)
     where
       both-limits : (b : Bool) → every mapping_matches hall ≡ b
           → min (min passed (lowest_of_models hall)) (limits_lowest t.models t.geometries t.units) ≡ min (lowest_of_models hall) (whole_lowest hall)
       both-limits true m = rw (limits_are m) (omega (arith, (limits_low (counts_within_limits hall) (image_within_limit hall)).1))
       both-limits false m = rw (mapping-lowest hall m) (omega (arith, (limits_low (counts_within_limits hall) (image_within_limit hall)).0, tally_limits))
 
--- ---- with the place that is nearest
+  pub judged-fails : (lowest : ℕ) → lowest ≡ min (min t.lowest (failing 12 (eqb t.left 0))) (limits_lowest t.models t.geometries t.units) → lowest < passed → judged (parse s) ≡ Fails (check_of lowest)
+  judged-fails lowest e l = judged-as lowest e ∙ rw (lt-leb passed lowest l)
 
-pub survey-both : {s : List ℕ} {m g lowest : ℕ} (t : Tally) {p : Mark} {r : Findings} → r ≡ findings_of lowest t p → Examined s (summary_of lowest t) → Near s m g t.models p → Surveyed s m g r
-survey-both t e x n = rw e (record { examined = x; nearest = n })
+  pub judged-sound : (lowest : ℕ) → lowest ≡ min (min t.lowest (failing 12 (eqb t.left 0))) (limits_lowest t.models t.geometries t.units) → passed ≤ lowest → judged (parse s) ≡ Sound
+  judged-sound lowest e l = judged-as lowest e ∙ rw (le-leb passed lowest l)
+
+  -- with the place that is nearest
+  pub found-all : {m g : ℕ} {p : Mark} {r : Findings} → judged (parse s) ≡ Sound → Near s m g t.models p → r ≡ record { summary = summary_of t; nearest = p } → Found s m g r
+  found-all v n e =
+      let m = (verdict-sound hall (sym verdict-is ∙ v)).mappings in
+      rw e (record { counted = record { models = models_are; geometries = geometries-are; image = units-are m }; nearest = rw (← models_are) n })
 
 -- ---- the first n bytes of a buffer
 
-pub first-outside : (b : List ℕ) (n : ℕ) (r : Summary) → length b < n → r.lowest ≡ 11 → ExaminedFirst b n r
+pub verdict-outside : (b : List ℕ) (n : ℕ) → length b < n → hall_verdict b n ≡ Fails 11
 unfolding hall_verdict
-first-outside b n r h e = record {
-  verdict = rw (e, lt-leb n (length b) h);
-  counted = λ z. let y : Fails 11 ≡ Sound = rw (lt-leb n (length b) h) at z in let z : ◌≡◌ {A = ℕ} 0 1 = cc in absurd (omega arith);
-}
+verdict-outside b n h = rw (lt-leb n (length b) h)
 
-pub verdict-inside : (b : List ℕ) (n : ℕ) → n ≤ length b → hall_verdict b n ≡ judged (parse (take n b))
+pub verdict-inside : (b : List ℕ) (n : ℕ) → n ≤ length b → judged (parse (take n b)) ≡ hall_verdict b n
 unfolding hall_verdict
 verdict-inside b n h = rw (le-leb n (length b) h)
-
-pub first-inside : (b : List ℕ) (n : ℕ) (r : Summary) → n ≤ length b → Examined (take n b) r → ExaminedFirst b n r
-first-inside b n r h x = record { verdict = x.verdict ∙ sym (verdict-inside b n h); counted = λ z. x.counted (sym (verdict-inside b n h) ∙ z) }
-
-module _ (b : List ℕ) (n m g : ℕ) (r : Findings) where
-  pub survey_outside : length b < n → r.summary.lowest ≡ 11 → SurveyedFirst b n m g r
-  unfolding hall_verdict
-  survey_outside h e = record {
-    examined = first-outside b n r.summary h e;
-    nearest = λ z. let y : Fails 11 ≡ Sound = rw (lt-leb n (length b) h) at z in let z : ◌≡◌ {A = ℕ} 0 1 = cc in absurd (omega arith);
-  }
-
-  pub survey-inside : n ≤ length b → Surveyed (take n b) m g r → SurveyedFirst b n m g r
-  survey-inside h x = record {
-    examined = first-inside b n r.summary h x.examined;
-    nearest = λ z. rw (← (x.examined.counted (sym (verdict-inside b n h) ∙ z)).models) x.nearest;
-  }

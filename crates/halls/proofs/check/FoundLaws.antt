@@ -1,21 +1,20 @@
 -- The finders behind the check: places in the first n bytes of a sound buffer are those of the hall that its records say.
 use mathlib.Core.Path.{◌≡◌}
 use mathlib.Core.List.{List}
-use mathlib.Core.Option.{bind}
 use Prim.Native.Nat.{ℕ}
 use lib.ListN.{take}
 use Rattle.halls.specs.Records.{records}
 use Rattle.halls.specs.Parsing.{models_in}
 use Rattle.halls.specs.Checks.{hall_verdict}
-use Rattle.halls.specs.Places.{model_place, geometry_place, found_model, found_geometry, model_found, geometry_found}
-use Rattle.halls.specs.declared.check.check.Verdict.TheVariants.{Sound}
+use Rattle.halls.specs.Places.{model_place, geometry_place, model_found, geometry_found}
+use Rattle.halls.specs.Verdict.{Sound}
 use Rattle.halls.proofs.StateLaws.{SoundBytes}
 
 module _ {b : List ℕ} {n : ℕ} (e : hall_verdict b n ≡ Sound) (w : SoundBytes b n) (m : ℕ) where
-  pub model_found-sound : model_found b n m ≡ found_model (model_place (models_in (records (take n b))) m)
-  unfolding model_found bind
+  pub model_found-sound : model_found b n m ≡ (model_place (models_in (records (take n b))) m)
+  unfolding model_found
   model_found-sound = rw (e, w.parsed)
 
-  pub geometry_found-sound : (g : ℕ) → geometry_found b n m g ≡ found_geometry (geometry_place (models_in (records (take n b))) m g)
-  unfolding geometry_found bind
+  pub geometry_found-sound : (g : ℕ) → geometry_found b n m g ≡ (geometry_place (models_in (records (take n b))) m g)
+  unfolding geometry_found
   geometry_found-sound g = rw (e, w.parsed)

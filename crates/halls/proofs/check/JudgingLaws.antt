@@ -1,8 +1,8 @@
 -- One geometry, as the code judges it: its numbers at the front of some bytes, and each check of them.
+use Rattle.std.specs.Prelude.{Option, None, Some}
 use mathlib.Core.Path.{◌≡◌, refl, sym, ap, ◌∙◌}
 use mathlib.Core.Bool.{Bool, true, false, cond, ◌&&◌}
 use mathlib.Core.List.{List}
-use mathlib.Core.Option.{Option, none, some}
 use Prim.Native.Nat.{ℕ, suc, ◌+◌, ◌*◌, ◌≤◌, ◌<◌}
 use native.Mathlib.Nat.{add_assoc, add-zero, mul-le-mul_right, suc-mul}
 use native.Mathlib.Omega.{arith}
@@ -15,9 +15,8 @@ use Rattle.sections.specs.Le.{field, le}
 use Rattle.sections.proofs.AddressLaws.{both_true}
 use Rattle.sections.proofs.EditLaws.{part_length, part-part}
 use Rattle.sections.proofs.LeLaws.{field_in}
-use Rattle.vertices.specs.Declaration.{declaration_at, found_component}
+use Rattle.vertices.specs.Declaration.{declaration_at}
 use Rattle.vertices.specs.Runs.{numbers}
-use Rattle.vertices.specs.declared.declaration.FoundComponent.TheVariants.{Component, Missing}
 use Rattle.vertices.specs.declared.types.VertexComponent.{VertexComponent}
 use Rattle.vertices.proofs.RunLaws.{numbers-get_or, numbers-length}
 use Rattle.halls.specs.Checks.{strides_agree, components_inside, vertex_counts_agree, index_counts_agree, indices_in_range, triangles_distinct, has_size}
@@ -290,15 +289,15 @@ module _ {s : List ℕ} {content held : ℕ} (f : GeometryFront s content held) 
 
 -- ---- the position
 
-pub position-missing : (o : Option VertexComponent) → Missing ≡ found_component o → has_size o ≡ false
-position-missing none e = refl
-position-missing (some c) e = let z : ◌≡◌ {A = ℕ} 0 1 = cc in absurd (omega arith)
+pub position-missing : (o : Option VertexComponent) → None ≡ o → has_size o ≡ false
+position-missing None e = refl
+position-missing (Some c) e = let z : ◌≡◌ {A = ℕ} 0 1 = cc in absurd (omega arith)
 
-position_found : (o : Option VertexComponent) (c : VertexComponent) → Component c ≡ found_component o → has_size o ≡ ltb 0 c.size
-position_found none c e = let z : ◌≡◌ {A = ℕ} 0 1 = cc in absurd (omega arith)
-position_found (some x) c e = cc
+position_found : (o : Option VertexComponent) (c : VertexComponent) → Some c ≡ o → has_size o ≡ ltb 0 c.size
+position_found None c e = let z : ◌≡◌ {A = ℕ} 0 1 = cc in absurd (omega arith)
+position_found (Some x) c e = cc
 
-module _ (o : Option VertexComponent) (c : VertexComponent) (e : Component c ≡ found_component o) where
+module _ (o : Option VertexComponent) (c : VertexComponent) (e : Some c ≡ o) where
   pub position_empty : c.size ≡ 0 → has_size o ≡ false
   position_empty z = position_found o c e ∙ le-ltb 0 c.size (omega arith)
 

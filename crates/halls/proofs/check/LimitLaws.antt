@@ -12,7 +12,7 @@ use Rattle.halls.specs.Hall.{Hall}
 use Rattle.halls.specs.ImageSize.{image_size}
 use Rattle.halls.specs.Inner.Order.{too_large, failing, verdict_of}
 use Rattle.halls.specs.Inner.Walk.{units, limits_lowest}
-use Rattle.halls.specs.declared.check.check.Verdict.TheVariants.{Sound}
+use Rattle.halls.specs.Verdict.{Sound}
 
 pub sixteenth : (x : ℕ) → leb (16 * x) 67108864 ≡ leb x 4194304
 sixteenth x = on (leb x 4194304) refl

@@ -9,16 +9,17 @@ use native.Mathlib.Numerals.{add-one}
 use native.Mathlib.Omega.{arith}
 use borrow.Author.Tests.{eq-eqb, eqb-true, ne_eqb}
 use lib.Dec.{T, eqb, ltb}
-use lib.ListN.{length, take, drop, length-append, length-drop, take-append-drop}
-use lib.Seq.{drop-drop, drop-cons, take-add, length-take-le}
+use lib.ListN.{length, take, drop, length-append, length-drop}
+use lib.Seq.{drop-drop, drop-cons, take-add, take_at, length-take-le}
 use Rattle.sections.specs.Edit.{part}
+use Rattle.sections.specs.Le.{le}
 use Rattle.vertices.specs.Runs.{numbers}
-use Rattle.vertices.proofs.RunLaws.{numbers-add}
+use Rattle.vertices.proofs.RunLaws.{numbers-length, numbers-add, numbers-get_or}
 use Rattle.halls.specs.Checks.{triangles_of, has_three_vertices}
 use Rattle.halls.specs.Every.{every}
 use Rattle.halls.specs.Inner.Order.{passed}
 use Rattle.halls.specs.Inner.Judging.{indices_lowest_of}
-use Rattle.halls.specs.Inner.Counting.{triangle_at, lent_triangle_at, one, indices_below, equal_pairs, counted_lowest}
+use Rattle.halls.specs.Inner.Counting.{lent_triangle_at, triangle_in, one, indices_below, equal_pairs, counted_lowest}
 use Rattle.halls.specs.declared.check.triangle.Triangle.{Triangle}
 use Rattle.halls.proofs.EveryLaws.{and_true, and_false, every_append}
 
@@ -184,59 +185,61 @@ module _ {limit : ℕ} {xs : List ℕ} {lowest i : ℕ} (k : Scanned limit xs lo
       let lowest-18 : indices_lowest_of limit xs ≡ 18 = sym k.is ∙ h in
       sym (ap (indices_lowest_of limit) e ∙ lowest-append limit i xs ys k.long ∙ omega (arith, low, lowest-18))
 
--- ---- the indices of triangles that stand in bytes, so wide each
+-- ---- triangles in a list of indices
 
--- n triangles behind i of them; `place` is where they begin
-pub triangles-add : (width : ℕ) (s : List ℕ) (at i n place : ℕ) → place ≡ at + 3 * i * width
-    → numbers width (3 * (i + n)) (drop at s) ≡ numbers width (3 * i) (drop at s) ++ numbers width (3 * n) (drop place s)
-triangles-add width s at i n place e =
-    let both : 3 * (i + n) ≡ 3 * i + 3 * n = omega arith in
-    ap (λ (m : ℕ). numbers width m (drop at s)) both ∙ numbers-add width (3 * i) (3 * n) (drop at s)
-    ∙ ap (λ (l : List ℕ). numbers width (3 * i) (drop at s) ++ numbers width (3 * n) l) (drop-drop (3 * i * width) at s ∙ ap (λ (m : ℕ). drop m s) (sym e))
+module _ (xs : List ℕ) where
+  -- n triangles behind i of them
+  pub triangles-add : (i n : ℕ) → take (3 * (i + n)) xs ≡ take (3 * i) xs ++ take (3 * n) (drop (3 * i) xs)
+  triangles-add i n =
+      let both : 3 * (i + n) ≡ 3 * i + 3 * n = omega arith in
+      ap (λ (m : ℕ). take m xs) both ∙ take-add (3 * i) (3 * n) xs
 
--- all of them, behind i
-pub triangles-all : (width : ℕ) (s : List ℕ) (at i count : ℕ) → i ≤ count
-    → numbers width (3 * count) (drop at s) ≡ numbers width (3 * i) (drop at s) ++ numbers width (3 * (count - i)) (drop (at + 3 * i * width) s)
-triangles-all width s at i count h =
-    let both : i + (count - i) ≡ count = omega arith in
-    ap (λ (m : ℕ). numbers width (3 * m) (drop at s)) (sym both) ∙ triangles-add width s at i (count - i) _ refl
+  pub triangles-length : (i n : ℕ) → 3 * (i + n) ≤ length xs → length (take (3 * n) (drop (3 * i) xs)) ≡ 3 * n
+  triangles-length i n h = length-take-le (3 * n) (drop (3 * i) xs) (simp length-drop (omega arith))
 
-one-triangle : (width : ℕ) (s : List ℕ) (at : ℕ) → numbers width (3 * 1) (drop at s) ≡ indices_of (triangle_at width s at)
-unfolding numbers part
-one-triangle width s at =
-    let twice : at + width + width ≡ at + 2 * width = omega arith in
-    rw (drop-drop width at s, drop-drop width (at + width) s, twice) refl
+  -- all of them, behind i
+  pub triangles-all : (i count : ℕ) → i ≤ count → take (3 * count) xs ≡ take (3 * i) xs ++ take (3 * (count - i)) (drop (3 * i) xs)
+  triangles-all i count h =
+      let both : count ≡ i + (count - i) = omega arith in
+      ap (λ (m : ℕ). take (3 * m) xs) both ∙ triangles-add i (count - i)
 
--- one behind i of them
-pub triangles-next : (width : ℕ) (s : List ℕ) (at i place : ℕ) {t : Triangle} → place ≡ at + 3 * i * width → t ≡ triangle_at width s place
-    → numbers width (3 * (i + 1)) (drop at s) ≡ numbers width (3 * i) (drop at s) ++ indices_of t
-triangles-next width s at i place e f = triangles-add width s at i 1 place e ∙ ap (λ (l : List ℕ). numbers width (3 * i) (drop at s) ++ l) (one-triangle width s place ∙ ap indices_of (sym f))
+  -- and so of a place that is told the other way round
+  pub lent_add : (i n : ℕ) → take (3 * (i + n)) xs ≡ take (3 * i) xs ++ take (3 * n) (drop (i * 3) xs)
+  lent_add i n =
+      let other : 3 * i ≡ i * 3 = omega arith in
+      triangles-add i n ∙ ap (λ (m : ℕ). take (3 * i) xs ++ take (3 * n) (drop m xs)) other
 
-pub no-triangles : (width : ℕ) (s : List ℕ) → numbers width (3 * 0) s ≡ []
-unfolding numbers
-no-triangles width s = refl
+  pub lent_length : (i n : ℕ) → 3 * (i + n) ≤ length xs → length (take (3 * n) (drop (i * 3) xs)) ≡ 3 * n
+  lent_length i n h = length-take-le (3 * n) (drop (i * 3) xs) (simp length-drop (omega arith))
 
--- ---- and those of a caller's indices
+  lent_triangle : (at : ℕ) → at + 3 ≤ length xs → take 3 (drop at xs) ≡ indices_of (lent_triangle_at xs at)
+  lent_triangle at h =
+      let third : at + 2 ≡ suc (suc at) = omega arith in
+      rw (add-one at, third, drop-cons xs at 0 (omega arith), drop-cons xs (suc at) 0 (omega arith), drop-cons xs (suc (suc at)) 0 (omega arith)) refl
 
-pub lent_add : (xs : List ℕ) (i n : ℕ) → take (3 * (i + n)) xs ≡ take (3 * i) xs ++ take (3 * n) (drop (i * 3) xs)
-lent_add xs i n =
-    let both : 3 * (i + n) ≡ 3 * i + 3 * n = omega arith in
-    let other : 3 * i ≡ i * 3 = omega arith in
-    ap (λ (m : ℕ). take m xs) both ∙ take-add (3 * i) (3 * n) xs ∙ ap (λ (m : ℕ). take (3 * i) xs ++ take (3 * n) (drop m xs)) other
+  -- one more of them, from the triangle `first` on
+  pub triangles-next : (first i : ℕ) {t : Triangle} → first ≤ i → 3 * i + 3 ≤ length xs → t ≡ triangle_in xs i
+      → take (3 * (i + 1 - first)) (drop (3 * first) xs) ≡ take (3 * (i - first)) (drop (3 * first) xs) ++ indices_of t
+  triangles-next first i f h e =
+      let ys : List ℕ = drop (3 * first) xs in
+      let both : 3 * first + 3 * (i - first) ≡ 3 * i = omega arith in
+      let more : 3 * (i + 1 - first) ≡ 3 * (i - first) + 3 = omega arith in
+      ap (λ (m : ℕ). take m ys) more ∙ take-add (3 * (i - first)) 3 ys
+      ∙ ap (λ (l : List ℕ). take (3 * (i - first)) ys ++ take 3 l) (drop-drop (3 * (i - first)) (3 * first) xs ∙ ap (λ (m : ℕ). drop m xs) both)
+      ∙ ap (λ (l : List ℕ). take (3 * (i - first)) ys ++ l) (lent_triangle (3 * i) h ∙ ap indices_of (sym e))
 
-pub lent_length : (xs : List ℕ) (i n : ℕ) → 3 * (i + n) ≤ length xs → length (take (3 * n) (drop (i * 3) xs)) ≡ 3 * n
-lent_length xs i n h = length-take-le (3 * n) (drop (i * 3) xs) (simp length-drop (omega arith))
+-- the i-th triangle of the numbers that fill some bytes, so wide each
+module _ (width n : ℕ) (s : List ℕ) (i : ℕ) (h : 3 * i + 3 ≤ length (numbers width n s)) where
+  pub triangle-fits : 3 * i + 3 ≤ n
+  triangle-fits = omega (arith, h, numbers-length width n s)
 
-pub lent-all : (xs : List ℕ) (i : ℕ) → xs ≡ take (3 * i) xs ++ drop (3 * i) xs
-lent-all xs i = sym (take-append-drop (3 * i) xs)
+  pub triangle_of-bytes : triangle_in (numbers width n s) i ≡ record { a = le (part s (3 * i * width) width); b = le (part s ((3 * i + 1) * width) width); c = le (part s ((3 * i + 2) * width) width) }
+  triangle_of-bytes =
+      rw (numbers-get_or width n (3 * i) s (omega (arith, triangle-fits)), numbers-get_or width n (3 * i + 1) s (omega (arith, triangle-fits)), numbers-get_or width n (3 * i + 2) s (omega (arith, triangle-fits))) refl
 
-lent_triangle : (xs : List ℕ) (at : ℕ) → at + 3 ≤ length xs → take 3 (drop at xs) ≡ indices_of (lent_triangle_at xs at)
-lent_triangle xs at h =
-    let third : at + 2 ≡ suc (suc at) = omega arith in
-    rw (add-one at, third, drop-cons xs at 0 (omega arith), drop-cons xs (suc at) 0 (omega arith), drop-cons xs (suc (suc at)) 0 (omega arith)) refl
-
-pub lent-next : (xs : List ℕ) (at i place : ℕ) {t : Triangle} → place ≡ at + i * 3 → place + 3 ≤ length xs → t ≡ lent_triangle_at xs place
-    → take (3 * (i + 1)) (drop at xs) ≡ take (3 * i) (drop at xs) ++ indices_of t
-lent-next xs at i place e h f =
-    lent_add (drop at xs) i 1 ∙ ap (λ (l : List ℕ). take (3 * i) (drop at xs) ++ take 3 l) (drop-drop (i * 3) at xs ∙ ap (λ (m : ℕ). drop m xs) (sym e))
-    ∙ ap (λ (l : List ℕ). take (3 * i) (drop at xs) ++ l) (lent_triangle xs place h ∙ ap indices_of (sym f))
+-- the first of them
+pub numbers-take : (width m n : ℕ) (s : List ℕ) → m ≤ n → take m (numbers width n s) ≡ numbers width m s
+numbers-take width m n s h =
+    let both : n ≡ m + (n - m) = omega arith in
+    ap (λ (k : ℕ). take m (numbers width k s)) both ∙ ap (take m) (numbers-add width m (n - m) s)
+    ∙ take_at (numbers width m s) (numbers width (n - m) (drop (m * width) s)) m (numbers-length width m s)

@@ -1,7 +1,7 @@
 -- Laws of seeking: one record of some bytes, and the records behind others.
+use Rattle.std.specs.Prelude.{None, Some}
 use mathlib.Core.Path.{◌≡◌, refl, sym, ap, ◌∙◌}
 use mathlib.Core.List.{List, [], ◌∷◌, ◌++◌}
-use mathlib.Core.Option.{none, some}
 use Prim.Native.Nat.{ℕ, ◌+◌, ◌-◌, ◌≤◌, ◌<◌}
 use native.Mathlib.Nat.{add-zero, lt_of_not-le}
 use native.Mathlib.Decide.{dec_le}
@@ -13,13 +13,15 @@ use Rattle.sections.specs.Le.{field}
 use Rattle.sections.proofs.EditLaws.{part_length}
 use Rattle.halls.specs.Parsing.{records_length}
 use Rattle.halls.specs.Records.{Record, body_length, front_record, records}
+use Rattle.halls.specs.Inner.Spans.{Spans}
+use Rattle.halls.specs.declared.format.walk.RecordSpan.{RecordSpan}
 use Rattle.halls.specs.Inner.Seeking.{place_of, sought}
 use Rattle.halls.proofs.format.RecordLaws.{field-drop, length_at, records-stop, records-step}
 
 -- ---- one record of a list
 
 module _ (kind skip at : ℕ) (r : Record) (rs : List Record) where
-  pub place_here : r.kind ≡ kind → skip ≡ 0 → place_of kind skip at (r ∷ rs) ≡ some at
+  pub place_here : r.kind ≡ kind → skip ≡ 0 → place_of kind skip at (r ∷ rs) ≡ Some at
   unfolding place_of
   place_here k z = rw (eq-eqb r.kind kind k, z)
 
@@ -27,7 +29,7 @@ module _ (kind skip at : ℕ) (r : Record) (rs : List Record) where
   unfolding place_of
   place-next k z = rw (eq-eqb r.kind kind k, ne_eqb skip 0 z)
 
-  pub place-ended : (r.kind ≡ kind → ⊥) → r.kind ≡ 1 → place_of kind skip at (r ∷ rs) ≡ none
+  pub place-ended : (r.kind ≡ kind → ⊥) → r.kind ≡ 1 → place_of kind skip at (r ∷ rs) ≡ None
   unfolding place_of
   place-ended k m = rw (ne_eqb r.kind kind k, eq-eqb r.kind 1 m)
 
@@ -45,54 +47,56 @@ module _ (s : List ℕ) (at kind skip : ℕ) where
   unfolding sought place_of
   stopped h = rw (records-stop left h)
 
-  -- too few bytes for its head, or for its body
-  pub sought-end : length s - at < 6 → length s ≡ sought s at kind skip
-  sought-end h = stopped (rw length-drop (omega arith))
+  -- none that is whole
+  pub sought-end : at ≤ length s → length s < at + 6 + field 4 s at → length s ≡ sought s at kind skip
+  sought-end h l =
+      elim (dec_le (at + 6) (length s)) [
+        | yes y ↦ let b = length_at s at y refl in stopped (rw length-drop (omega arith))
+        | no y ↦ let few = lt_of_not-le y in stopped (rw length-drop (omega (arith, few)))
+      ]
 
-  pub sought-broken : {n : ℕ} → at + 6 ≤ length s → n ≡ field 4 s at → length s < at + 6 + n → length s ≡ sought s at kind skip
-  sought-broken h e l =
-      let b = length_at s at h e in
-      stopped (rw length-drop (omega arith))
-
-  module _ {n found : ℕ} (e : n ≡ field 4 s at) (h : at + 6 + n ≤ length s) (f : found ≡ field 2 s (at + 4)) where
+  module _ {found : RecordSpan} (q : Spans s at found) where
     abbrev r : Record
     r = front_record left
 
-    length-is : body_length left ≡ n
-    length-is = length_at s at (omega arith) e
+    length-is : body_length left ≡ field 4 s at
+    length-is = length_at s at (omega (arith, q.inside, q.end-is)) refl
 
     fit : 6 + body_length left ≤ length left
-    fit = rw length-drop (omega (arith, length-is))
+    fit = rw length-drop (omega (arith, length-is, q.inside, q.end-is))
 
-    kind-is : r.kind ≡ found
+    kind-is : r.kind ≡ found.kind
     unfolding front_record
-    kind-is = field-drop 2 s at 4 (omega arith) ∙ sym f
+    kind-is = field-drop 2 s at 4 (omega (arith, q.inside, q.end-is)) ∙ sym q.kind-is
 
-    body_is : length r.body ≡ n
+    body_is : length r.body ≡ field 4 s at
     unfolding front_record
     body_is = part_length left 6 (body_length left) fit ∙ length-is
 
-    step : records left ≡ r ∷ records (drop (at + 6 + n) s)
+    behind-is : at + 6 + length r.body ≡ found.end
+    behind-is = omega (arith, body_is, q.end-is)
+
+    step : records left ≡ r ∷ records (drop found.end s)
     step =
-        let place : at + (6 + body_length left) ≡ at + 6 + n = omega (arith, length-is) in
-        let behind : drop (6 + body_length left) left ≡ drop (at + 6 + n) s = rw (drop-drop (6 + body_length left) at s, place) in
+        let place : at + (6 + body_length left) ≡ found.end = omega (arith, length-is, q.end-is) in
+        let behind : drop (6 + body_length left) left ≡ drop found.end s = rw (drop-drop (6 + body_length left) at s, place) in
         records-step left fit ∙ ap (λ (l : List ℕ). r ∷ records l) behind
 
-    pub sought-here : found ≡ kind → skip ≡ 0 → at ≡ sought s at kind skip
+    pub sought-here : found.kind ≡ kind → skip ≡ 0 → at ≡ sought s at kind skip
     unfolding sought
-    sought-here k z = rw (step, place_here kind skip at r (records (drop (at + 6 + n) s)) (kind-is ∙ k) z)
+    sought-here k z = rw (step, place_here kind skip at r (records (drop found.end s)) (kind-is ∙ k) z)
 
-    pub sought-next : found ≡ kind → (skip ≡ 0 → ⊥) → sought s (at + 6 + n) kind (skip - 1) ≡ sought s at kind skip
+    pub sought-next : found.kind ≡ kind → (skip ≡ 0 → ⊥) → sought s found.end kind (skip - 1) ≡ sought s at kind skip
     unfolding sought
-    sought-next k z = rw (step, place-next kind skip at r (records (drop (at + 6 + n) s)) (kind-is ∙ k) z, body_is)
+    sought-next k z = rw (step, place-next kind skip at r (records (drop found.end s)) (kind-is ∙ k) z, behind-is)
 
-    pub sought-ended : (found ≡ kind → ⊥) → found ≡ 1 → length s ≡ sought s at kind skip
+    pub sought-ended : (found.kind ≡ kind → ⊥) → found.kind ≡ 1 → length s ≡ sought s at kind skip
     unfolding sought
-    sought-ended k m = rw (step, place-ended kind skip at r (records (drop (at + 6 + n) s)) (λ x. k (sym kind-is ∙ x)) (kind-is ∙ m))
+    sought-ended k m = rw (step, place-ended kind skip at r (records (drop found.end s)) (λ x. k (sym kind-is ∙ x)) (kind-is ∙ m))
 
-    pub sought-past : (found ≡ kind → ⊥) → (found ≡ 1 → ⊥) → sought s (at + 6 + n) kind skip ≡ sought s at kind skip
+    pub sought-past : (found.kind ≡ kind → ⊥) → (found.kind ≡ 1 → ⊥) → sought s found.end kind skip ≡ sought s at kind skip
     unfolding sought
-    sought-past k m = rw (step, place_past kind skip at r (records (drop (at + 6 + n) s)) (λ x. k (sym kind-is ∙ x)) (λ x. m (sym kind-is ∙ x)), body_is)
+    sought-past k m = rw (step, place_past kind skip at r (records (drop found.end s)) (λ x. k (sym kind-is ∙ x)) (λ x. m (sym kind-is ∙ x)), behind-is)
 
 -- ---- the records behind others
 

@@ -1,9 +1,8 @@
 -- A geometry that was found in a sound hall: what stands at its place, and the hall with another in it.
+use Rattle.std.specs.Prelude.{Option, None, Some, option_map}
 use mathlib.Core.Path.{◌≡◌, refl, sym, ap, ◌∙◌}
 use mathlib.Core.Bool.{Bool, true}
 use mathlib.Core.List.{List, ◌++◌, map, append_assoc}
-use mathlib.Core.Option
-use mathlib.Core.Option.{Option, none, some}
 use Prim.Native.Nat.{ℕ, ◌+◌, ◌^◌, ◌≤◌, ◌<◌}
 use native.Mathlib.Omega.{arith}
 use lib.ListN.{length, take, drop, length-append, length-take, take-append-drop}
@@ -17,12 +16,11 @@ use Rattle.halls.specs.Calls.{replaced, with_geometries, with_geometry, on_geome
 use Rattle.halls.specs.Checks.{every_geometry}
 use Rattle.halls.specs.Hall.{FullGeometry, FullModel, Hall, FullGeometryInWidth, FullModelInWidth, listed_geometry, hall_bytes}
 use Rattle.halls.specs.List.{geometry_body, vertices_body, record_bytes, geometry_record, declaration_record, vertices_record, indices_record, write_geometry}
-use Rattle.halls.specs.Places.{item, places_from, geometry_place, found_geometry, GeometryIn}
+use Rattle.halls.specs.Places.{item, places_from, geometry_place, GeometryIn}
 use Rattle.halls.specs.Reading.{Reading, refused}
 use Rattle.halls.specs.State.{Geometry, Model, vertex_count, full_geometry, full_model, hall_of}
 use Rattle.halls.specs.Step.{state_in}
 use Rattle.halls.specs.declared.check.find.GeometryPlace.{GeometryPlace}
-use Rattle.halls.specs.declared.check.find.FoundGeometry.TheVariants.{At as GeometryAt, Absent as NoGeometry}
 use Rattle.halls.proofs.format.BodyLaws.{geometry_body-length, vertices_body-length}
 use Rattle.halls.proofs.edit.ChangedLaws.{changed_model, changed_hall, bytes_before, bytes_behind, map_same, bytes-changed, before-length, SameHall_lem, passes}
 use Rattle.halls.proofs.check.JudgingLaws.{declaration-part}
@@ -35,16 +33,16 @@ use Rattle.halls.proofs.read.ViewLaws.{Record-length}
 -- ---- the place, by what is there
 
 module _ (h : Hall) (m g : ℕ) where
-  no-model : item m h ≡ none → geometry_place h m g ≡ none
+  no-model : item m h ≡ None → geometry_place h m g ≡ None
   unfolding geometry_place
   no-model e = rw e
 
-  module _ (x : FullModel) (e : item m h ≡ some x) where
-    no-geometry : item g x.geometries ≡ none → geometry_place h m g ≡ none
+  module _ (x : FullModel) (e : item m h ≡ Some x) where
+    no-geometry : item g x.geometries ≡ None → geometry_place h m g ≡ None
     unfolding geometry_place
     no-geometry f = rw (e, f)
 
-    some-geometry : (y : FullGeometry) → item g x.geometries ≡ some y → geometry_place h m g ≡ some (places_from (length (hall_bytes (take m h))) (length (bytes_before m g h x)) y)
+    some-geometry : (y : FullGeometry) → item g x.geometries ≡ Some y → geometry_place h m g ≡ Some (places_from (length (hall_bytes (take m h))) (length (bytes_before m g h x)) y)
     unfolding geometry_place
     some-geometry y f = rw (e, f, before-length m g h x)
 
@@ -55,64 +53,64 @@ pub record Spot (b : List ℕ) (n m g at : ℕ) : Type 0 where
   pub old : Old b n
   pub model : Model
   pub geometry : Geometry
-  pub model_is : item m (state_in b n) ≡ some model
-  pub geometry-is : item g model.geometries ≡ some geometry
-  pub in-hall : item m (hall_in b n) ≡ some (full_model model)
-  pub InModel_lem : item g (map full_geometry model.geometries) ≡ some (full_geometry geometry)
+  pub model_is : item m (state_in b n) ≡ Some model
+  pub geometry-is : item g model.geometries ≡ Some geometry
+  pub in-hall : item m (hall_in b n) ≡ Some (full_model model)
+  pub InModel_lem : item g (map full_geometry model.geometries) ≡ Some (full_geometry geometry)
   pub place : at ≡ length (bytes_before m g (hall_in b n) (full_model model))
 
 module _ {b : List ℕ} {n : ℕ} (o : Old b n) (m g : ℕ) where
-  model-item : (x : Option Model) → item m (state_in b n) ≡ x → item m (hall_in b n) ≡ Option.map full_model x
-  model-item x e = ap (λ (l : Hall). item m l) (sym o.back) ∙ hall-item m (state_in b n) ∙ ap (λ (y : Option Model). Option.map full_model y) e
+  model-item : (x : Option Model) → item m (state_in b n) ≡ x → item m (hall_in b n) ≡ option_map full_model x
+  model-item x e = ap (λ (l : Hall). item m l) (sym o.back) ∙ hall-item m (state_in b n) ∙ ap (λ (y : Option Model). option_map full_model y) e
 
-  geometry-item : (x : Model) (y : Option Geometry) → item g x.geometries ≡ y → item g (map full_geometry x.geometries) ≡ Option.map full_geometry y
-  geometry-item x y e = item-map full_geometry g x.geometries ∙ ap (λ (z : Option Geometry). Option.map full_geometry z) e
+  geometry-item : (x : Model) (y : Option Geometry) → item g x.geometries ≡ y → item g (map full_geometry x.geometries) ≡ option_map full_geometry y
+  geometry-item x y e = item-map full_geometry g x.geometries ∙ ap (λ (z : Option Geometry). option_map full_geometry z) e
 
   module _ (at : ℕ) (e : GeometryIn b n m g at) where
-    by-geometry : (x : Model) → item m (state_in b n) ≡ some x → (y : Option Geometry) → item g x.geometries ≡ y → Spot b n m g at
-    by-geometry x p none q =
-        let there = no-geometry (hall_in b n) m g (full_model x) (model-item (some x) p) (geometry-item x none q) in
-        let clash : none ≡ some at = ap (λ (z : Option GeometryPlace). Option.map (λ (a : GeometryPlace). a.geometry) z) (sym there) ∙ e in
+    by-geometry : (x : Model) → item m (state_in b n) ≡ Some x → (y : Option Geometry) → item g x.geometries ≡ y → Spot b n m g at
+    by-geometry x p None q =
+        let there = no-geometry (hall_in b n) m g (full_model x) (model-item (Some x) p) (geometry-item x None q) in
+        let clash : None ≡ Some at = ap (λ (z : Option GeometryPlace). option_map (λ (a : GeometryPlace). a.geometry) z) (sym there) ∙ e in
         let z : ◌≡◌ {A = ℕ} 0 1 = cc in absurd (omega arith)
-    by-geometry x p (some y) q =
-        let in-hall = model-item (some x) p in
-        let InModel_lem = geometry-item x (some y) q in
+    by-geometry x p (Some y) q =
+        let in-hall = model-item (Some x) p in
+        let InModel_lem = geometry-item x (Some y) q in
         let there = some-geometry (hall_in b n) m g (full_model x) in-hall (full_geometry y) InModel_lem in
-        let same : some (length (bytes_before m g (hall_in b n) (full_model x))) ≡ some at = ap (λ (z : Option GeometryPlace). Option.map (λ (a : GeometryPlace). a.geometry) z) (sym there) ∙ e in
+        let same : Some (length (bytes_before m g (hall_in b n) (full_model x))) ≡ Some at = ap (λ (z : Option GeometryPlace). option_map (λ (a : GeometryPlace). a.geometry) z) (sym there) ∙ e in
         record { old = o; model = x; geometry = y; model_is = p; geometry-is = q; in-hall = in-hall; InModel_lem = InModel_lem; place = cc }
 
     by-model : (x : Option Model) → item m (state_in b n) ≡ x → Spot b n m g at
-    by-model none p =
-        let there = no-model (hall_in b n) m g (model-item none p) in
-        let clash : none ≡ some at = ap (λ (z : Option GeometryPlace). Option.map (λ (a : GeometryPlace). a.geometry) z) (sym there) ∙ e in
+    by-model None p =
+        let there = no-model (hall_in b n) m g (model-item None p) in
+        let clash : None ≡ Some at = ap (λ (z : Option GeometryPlace). option_map (λ (a : GeometryPlace). a.geometry) z) (sym there) ∙ e in
         let z : ◌≡◌ {A = ℕ} 0 1 = cc in absurd (omega arith)
-    by-model (some x) p = by-geometry x p (item g x.geometries) refl
+    by-model (Some x) p = by-geometry x p (item g x.geometries) refl
 
     pub spot : Spot b n m g at
     spot = by-model (item m (state_in b n)) refl
 
-  module _ (f : Model → Geometry → Reading Hall) (e : NoGeometry ≡ found_geometry (geometry_place (hall_in b n) m g)) where
-    none-by-geometry : (x : Model) → item m (state_in b n) ≡ some x → (y : Option Geometry) → item g x.geometries ≡ y → on_geometry m g (state_in b n) f ≡ refused 21
-    none-by-geometry x p none q = rw (p, q)
-    none-by-geometry x p (some y) q =
-        let there = some-geometry (hall_in b n) m g (full_model x) (model-item (some x) p) (full_geometry y) (geometry-item x (some y) q) in
-        let clash = e ∙ ap (λ (z : Option GeometryPlace). found_geometry z) there in
+  module _ (f : Model → Geometry → Reading Hall) (e : None ≡ (geometry_place (hall_in b n) m g)) where
+    none-by-geometry : (x : Model) → item m (state_in b n) ≡ Some x → (y : Option Geometry) → item g x.geometries ≡ y → on_geometry m g (state_in b n) f ≡ refused 21
+    none-by-geometry x p None q = rw (p, q)
+    none-by-geometry x p (Some y) q =
+        let there = some-geometry (hall_in b n) m g (full_model x) (model-item (Some x) p) (full_geometry y) (geometry-item x (Some y) q) in
+        let clash = e ∙ ap (λ (z : Option GeometryPlace). z) there in
         let z : ◌≡◌ {A = ℕ} 0 1 = cc in absurd (omega arith)
 
     none-by-model : (x : Option Model) → item m (state_in b n) ≡ x → on_geometry m g (state_in b n) f ≡ refused 21
-    none-by-model none p = rw p
-    none-by-model (some x) p = none-by-geometry x p (item g x.geometries) refl
+    none-by-model None p = rw p
+    none-by-model (Some x) p = none-by-geometry x p (item g x.geometries) refl
 
     -- check 21
     pub not_there : on_geometry m g (state_in b n) f ≡ refused 21
     not_there = none-by-model (item m (state_in b n)) refl
 
 -- what was found is there
-by_place : (o : Option GeometryPlace) (p : GeometryPlace) → GeometryAt p ≡ found_geometry o → Option.map (λ (a : GeometryPlace). a.geometry) o ≡ some p.geometry
-by_place none p e = let z : ◌≡◌ {A = ℕ} 0 1 = cc in absurd (omega arith)
-by_place (some q) p e = let same : p ≡ q = cc in ap (λ (a : GeometryPlace). some a.geometry) (sym same)
+by_place : (o : Option GeometryPlace) (p : GeometryPlace) → Some p ≡ o → option_map (λ (a : GeometryPlace). a.geometry) o ≡ Some p.geometry
+by_place None p e = let z : ◌≡◌ {A = ℕ} 0 1 = cc in absurd (omega arith)
+by_place (Some q) p e = let same : p ≡ q = cc in ap (λ (a : GeometryPlace). Some a.geometry) (sym same)
 
-pub Found-there : (b : List ℕ) (n m g : ℕ) (p : GeometryPlace) → GeometryAt p ≡ found_geometry (geometry_place (hall_in b n) m g) → GeometryIn b n m g p.geometry
+pub Found-there : (b : List ℕ) (n m g : ℕ) (p : GeometryPlace) → Some p ≡ (geometry_place (hall_in b n) m g) → GeometryIn b n m g p.geometry
 Found-there b n m g p e = by_place (geometry_place (hall_in b n) m g) p e
 
 -- ---- a geometry's bytes in parts

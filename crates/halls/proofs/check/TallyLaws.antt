@@ -22,8 +22,8 @@ use Rattle.halls.specs.Records.{Record}
 use Rattle.halls.specs.Triangles.{held_count}
 use Rattle.halls.specs.Inner.Walk.{leads, rest, is_empty, lowest_from, kind_count, model_units, geometry_units, units_from, geometry_of}
 use Rattle.halls.proofs.SoundLaws.{same_numbers_lem}
-use Rattle.halls.specs.declared.check.check.Verdict.{Verdict}
-use Rattle.halls.specs.declared.check.check.Verdict.TheVariants.{Sound}
+use Rattle.halls.specs.Verdict.{Verdict}
+use Rattle.halls.specs.Verdict.{Sound}
 
 -- ---- the lowest of some checks
 

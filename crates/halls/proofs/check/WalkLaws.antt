@@ -9,6 +9,7 @@ use borrow.Author.Tests.{eq-eqb, ne_eqb, eqb-true}
 use lib.Dec.{eqb}
 use lib.ListN.{length, take, drop, length-drop}
 use lib.Seq.{drop-drop, take_all}
+use Rattle.std.specs.Prelude.{Option, Some, None}
 use Rattle.sections.specs.Edit.{part}
 use Rattle.sections.specs.Le.{field}
 use Rattle.sections.proofs.EditLaws.{part_length}
@@ -23,10 +24,8 @@ use Rattle.halls.specs.Inner.Order.{passed, failing}
 use Rattle.halls.specs.Parsing.{whole, follows, may_end, ordered, exact, structured, geometry_in, mapping_count}
 use Rattle.halls.specs.Records.{Record, records}
 use Rattle.halls.specs.Inner.Walk.{front_of, well_from, leads, rest, is_empty, lowest_from, kind_count, model_units, geometry_units, units_from, left_of, start_tally, mark_of, before_of, Walked, Onward, Turned}
-use Rattle.halls.specs.declared.format.front.Front.TheVariants.{Model, Geometry, Broken}
+use Rattle.halls.specs.declared.format.front.Front.TheVariants.{Model, Geometry}
 use Rattle.halls.specs.declared.check.pass.Tally.{Tally}
-use Rattle.halls.specs.declared.check.pass.Turn.{Turn}
-use Rattle.halls.specs.declared.check.pass.Turn.TheVariants.{On, Stop}
 use Rattle.halls.proofs.format.FrontLaws.{ModelFront, ModelFront_lem, records-model, well-model, FourRecords, FourRecords_lem, records-geometry, well-geometry, well_no-model, well_broken, content_length_lem, indices_length_lem, geometry-long}
 use Rattle.halls.proofs.check.JudgingLaws.{field-part, numbers-part}
 use Rattle.halls.proofs.check.MarkLaws.{marked_start, Marked-model, Marked-geometry}
@@ -96,7 +95,7 @@ walk_start s = record {
 
 -- ---- a model passed
 
-module _ (s : List ℕ) (t : Tally) (w : Walked s t) (entries : ℕ) (e : Model entries ≡ front_of (drop t.at s)) where
+module _ (s : List ℕ) (t : Tally) (w : Walked s t) (entries : ℕ) (e : Some (Model entries) ≡ front_of (drop t.at s)) where
   abbrev left : List ℕ
   left = drop t.at s
 
@@ -138,7 +137,7 @@ module _ (s : List ℕ) (t : Tally) (w : Walked s t) (entries : ℕ) (e : Model 
       ∙ rw (is_empty_lem t.left (drop t.mapping s), entries-read)
 
   pub model-turned : (lowest image : ℕ) → lowest ≡ min t.lowest (failing 12 (eqb t.left 0)) → image ≡ t.units + model_units entries
-      → Turned s t (On (record { at = next; lowest = lowest; models = t.models + 1; geometries = t.geometries; units = image; model = t.at; first = t.geometries; mapping = t.at + 12; left = entries }))
+      → Turned s t (Some (record { at = next; lowest = lowest; models = t.models + 1; geometries = t.geometries; units = image; model = t.at; first = t.geometries; mapping = t.at + 12; left = entries }))
   unfolding Turned kind_count units_from
   model-turned lowest image l i =
       let ones : kind_count 1 (records left) ≡ 1 + kind_count 1 (records (drop next s)) = ap (kind_count 1) passed-record in
@@ -163,12 +162,12 @@ module _ (s : List ℕ) (t : Tally) (w : Walked s t) (entries : ℕ) (e : Model 
 
 -- ---- a geometry passed
 
-pub GeometryFront_lem : (s : List ℕ) (content held : ℕ) → Geometry content held ≡ front_of s → GeometryFront s content held
+pub GeometryFront_lem : (s : List ℕ) (content held : ℕ) → Some (Geometry (record { content = content; held = held })) ≡ front_of s → GeometryFront s content held
 GeometryFront_lem s content held e =
     let g = FourRecords_lem s content held e in
     record { content-is = g.content-is; held-is = g.held-is; long = geometry-long s content held g }
 
-module _ (s : List ℕ) (t : Tally) (w : Walked s t) (content held : ℕ) (e : Geometry content held ≡ front_of (drop t.at s)) where
+module _ (s : List ℕ) (t : Tally) (w : Walked s t) (content held : ℕ) (e : Some (Geometry (record { content = content; held = held })) ≡ front_of (drop t.at s)) where
   abbrev here : List ℕ
   here = drop t.at s
 
@@ -216,7 +215,7 @@ module _ (s : List ℕ) (t : Tally) (w : Walked s t) (content held : ℕ) (e : G
 
   pub geometry-turned : (lowest image fewer answer found shader : ℕ) → (t.models ≡ 0 → ⊥) → shader ≡ field 2 s (t.at + 6) → answer ≡ failing 12 (leads shader (left_of s t))
       → found ≡ lowest_of (front_geometry here) → lowest ≡ min t.lowest (min answer found) → image ≡ t.units + geometry_units content held → fewer ≡ t.left - 1
-      → Turned s t (On (record { at = beyond; lowest = lowest; models = t.models; geometries = t.geometries + 1; units = image; model = t.model; first = t.first; mapping = t.mapping + 2; left = fewer }))
+      → Turned s t (Some (record { at = beyond; lowest = lowest; models = t.models; geometries = t.geometries + 1; units = image; model = t.model; first = t.first; mapping = t.mapping + 2; left = fewer }))
   unfolding Turned kind_count units_from
   geometry-turned lowest image fewer answer found shader m x a f l i r =
       let ones : kind_count 1 (records here) ≡ kind_count 1 (records (drop beyond s)) = ap (kind_count 1) passed-records ∙ omega arith in
@@ -242,13 +241,13 @@ module _ (s : List ℕ) (t : Tally) (w : Walked s t) (content held : ℕ) (e : G
         record { further = omega arith; some-model = omega arith; same_or-next = inl refl },
       )
 
-  pub geometry-stops : t.models ≡ 0 → Turned s t Stop
+  pub geometry-stops : t.models ≡ 0 → Turned s t None
   unfolding Turned
   geometry-stops z = w.structure ∙ rw z (well_no-model here content held four)
 
 -- ---- neither
 
-pub broken_stops : (s : List ℕ) (t : Tally) → Walked s t → t.at < length s → Broken ≡ front_of (drop t.at s) → Turned s t Stop
+pub broken_stops : (s : List ℕ) (t : Tally) → Walked s t → t.at < length s → None ≡ front_of (drop t.at s) → Turned s t None
 unfolding Turned
 broken_stops s t w h e = w.structure ∙ well_broken (drop t.at s) (before_of t) (begins (eqb t.models 0)) (rw length-drop (omega arith)) e
 
@@ -275,11 +274,11 @@ answered_same {left} s mapping shader f h e d = rw (leads-first left s mapping s
 pub slice-rest : (s : List ℕ) (at : ℕ) → take (length s - at) (drop at s) ≡ drop at s
 slice-rest s at = take_all (length s - at) (drop at s) (rw length-drop (omega arith))
 
--- a turn as the code finds it
-pub turned_on : (s : List ℕ) (t : Tally) (r : Turn) (u : Tally) → Turned s t r → r ≡ On u → Walked s u × Onward t u
+-- a turn that is told by an equation
+pub turned_on : (s : List ℕ) (t : Tally) (r : Option Tally) (u : Tally) → Turned s t r → r ≡ Some u → Walked s u × Onward t u
 unfolding Turned
 turned_on s t r u h e = subst (Turned s t) e h
 
-pub Turned-stop : (s : List ℕ) (t : Tally) (r : Turn) → Turned s t r → r ≡ Stop → structured s ≡ false
+pub Turned-stop : (s : List ℕ) (t : Tally) (r : Option Tally) → Turned s t r → r ≡ None → structured s ≡ false
 unfolding Turned
 Turned-stop s t r h e = subst (Turned s t) e h

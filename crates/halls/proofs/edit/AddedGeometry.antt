@@ -1,8 +1,8 @@
 -- A geometry added at the end of a sound hall's last model: the checks that it can fail, the result's bytes and what the call comes to.
+use Rattle.std.specs.Prelude.{None, Some}
 use mathlib.Core.Path.{◌≡◌, refl, sym, ap, ◌∙◌, subst}
 use mathlib.Core.Bool.{Bool, true, false, cond, ◌&&◌}
 use mathlib.Core.List.{List, [], ◌∷◌, ◌++◌, map-append, append-nil, append_assoc}
-use mathlib.Core.Option.{none, some}
 use Prim.Native.Nat.{ℕ, zero, suc, ◌+◌, ◌*◌, ◌-◌, ◌/◌, ◌≤◌, ◌<◌, min}
 use native.Mathlib.Omega.{arith}
 use borrow.Author.Tests.{le-leb, lt-leb, leb-true, eq-eqb}
@@ -24,14 +24,13 @@ use Rattle.halls.specs.ImageSize.{geometry_size, model_size, image_size}
 use Rattle.halls.specs.Inner.Judging.{indices_lowest_of, lowest_of, inside_stride, given_lowest}
 use Rattle.halls.specs.Inner.Order.{passed, too_large, failing, check_of, verdict_of}
 use Rattle.halls.specs.List.{each, write_geometry}
-use Rattle.halls.specs.Places.{item, model_place, found_model}
+use Rattle.halls.specs.Places.{item, model_place}
 use Rattle.halls.specs.Reading.{read}
 use Rattle.halls.specs.State.{model_state, hall_of, state_of}
 use Rattle.halls.specs.Step.{state_in, rewritten, Stepped}
 use Rattle.halls.specs.Inner.Walk.{units, model_units, geometry_units, limits_lowest, Counted}
-use Rattle.halls.specs.declared.answer.Answer.TheVariants.{Accepted, Refused}
-use Rattle.halls.specs.declared.check.check.Verdict.TheVariants.{Sound, Fails}
-use Rattle.halls.specs.declared.check.find.FoundModel.TheVariants.{At}
+use Rattle.std.specs.Prelude.{Ok, Err}
+use Rattle.halls.specs.Verdict.{Sound, Fails}
 use Rattle.halls.specs.declared.check.pass.Summary.{Summary}
 use Rattle.halls.proofs.edit.AddedModel.{added-small}
 use Rattle.halls.proofs.check.CutLaws.{number-between, over-between, geometries_bytes, record_front, whole_parts, less-parts}
@@ -88,14 +87,14 @@ by_parts false false strides inside vertices indices range three image = refl
 
 -- a test of every item, with another in the place of one
 module _ {A : Type 0} (test : A → Bool) where
-  every-item : (i : ℕ) (xs : List A) (x : A) → item i xs ≡ some x → every test xs ≡ true → test x ≡ true
+  every-item : (i : ℕ) (xs : List A) (x : A) → item i xs ≡ Some x → every test xs ≡ true → test x ≡ true
   unfolding every
   every-item zero [] x e all = let z : ◌≡◌ {A = ℕ} 0 1 = cc in absurd (omega arith)
   every-item (suc i) [] x e all = let z : ◌≡◌ {A = ℕ} 0 1 = cc in absurd (omega arith)
   every-item zero (y ∷ ys) x e all = let same : y ≡ x = cc in subst (λ (a : A). test a ≡ true) same (both_true (test y) (every test ys) all).0
   every-item (suc i) (y ∷ ys) x e all = every-item i ys x e (both_true (test y) (every test ys) all).1
 
-  every-replaced : (i : ℕ) (xs : List A) (x y : A) → item i xs ≡ some x → every test xs ≡ true → every test (replaced i y xs) ≡ test y
+  every-replaced : (i : ℕ) (xs : List A) (x y : A) → item i xs ≡ Some x → every test xs ≡ true → every test (replaced i y xs) ≡ test y
   unfolding every
   every-replaced zero [] x y e all = let z : ◌≡◌ {A = ℕ} 0 1 = cc in absurd (omega arith)
   every-replaced (suc i) [] x y e all = let z : ◌≡◌ {A = ℕ} 0 1 = cc in absurd (omega arith)
@@ -139,7 +138,7 @@ states_long : (h : Hall) → length (state_of h) ≡ length h
 unfolding state_of
 states_long h = length-map h model_state
 
-module _ (b : List ℕ) (n : ℕ) (o : Old b n) (x : Given) (m : ℕ) (em : m ≡ length (hall_in b n) - 1) (last : FullModel) (is : item m (hall_in b n) ≡ some last) where
+module _ (b : List ℕ) (n : ℕ) (o : Old b n) (x : Given) (m : ℕ) (em : m ≡ length (hall_in b n) - 1) (last : FullModel) (is : item m (hall_in b n) ≡ Some last) where
   abbrev h : Hall
   h = hall_in b n
 
@@ -165,7 +164,7 @@ module _ (b : List ℕ) (n : ℕ) (o : Old b n) (x : Given) (m : ℕ) (em : m �
   unfolding proposed
   proposed-is =
       let count : length (state_in b n) - 1 ≡ m = ap (λ (i : ℕ). i - 1) (states_long h) ∙ sym em in
-      let there : item m (state_in b n) ≡ some (model_state last) = State-item m h ∙ rw is in
+      let there : item m (state_in b n) ≡ Some (model_state last) = State-item m h ∙ rw is in
       rw (count, there) (ap read
       (ap (λ (k : FullModel). replaced m (with_given k x) (hall_of (state_in b n))) (model_of-state last sound-last)
       ∙ ap (replaced m grown) o.back))
@@ -380,22 +379,22 @@ module _ (b : List ℕ) (n : ℕ) (o : Old b n) (x : Given) (m : ℕ) (em : m �
           put ∙ ap (λ (l : List ℕ). overwrite l (n + 2) Given-bytes) longer_is
           ∙ ap (λ (i : ℕ). overwrite (rewritten b n opened) i Given-bytes) (sym opened-long) ∙ rewritten-more b n opened Given-bytes long ∙ ap (rewritten b n) (sym result-is)
 
-      pub geometry-added : verdict result ≡ Sound → Stepped (add_geometry x) b n (Accepted needed) u
+      pub geometry-added : verdict result ≡ Sound → Stepped (add_geometry x) b n (Ok needed) u
       geometry-added v = becomes-new (add_geometry x) b n o result proposed-is v needed u needed-is room done_is
 
-  pub GeometryJudged_lem : (check : ℕ) → verdict result ≡ Fails check → Stepped (add_geometry x) b n (Refused (record { check = check; needed = 0 })) b
+  pub GeometryJudged_lem : (check : ℕ) → verdict result ≡ Fails check → Stepped (add_geometry x) b n (Err (record { check = check; needed = 0 })) b
   GeometryJudged_lem check v = stays-judged (add_geometry x) b n o result proposed-is check v
 
-  pub geometry-long : verdict result ≡ Sound → length b < needed → Stepped (add_geometry x) b n (Refused (record { check = 24; needed = needed })) b
+  pub geometry-long : verdict result ≡ Sound → length b < needed → Stepped (add_geometry x) b n (Err (record { check = 24; needed = needed })) b
   geometry-long v l = stays_long (add_geometry x) b n o result proposed-is v needed needed-is l
 
 -- no model at all
-pub no-model : (b : List ℕ) (n : ℕ) (o : Old b n) (x : Given) → length (hall_in b n) ≡ 0 → Stepped (add_geometry x) b n (Refused (record { check = 21; needed = 0 })) b
+pub no-model : (b : List ℕ) (n : ℕ) (o : Old b n) (x : Given) → length (hall_in b n) ≡ 0 → Stepped (add_geometry x) b n (Err (record { check = 21; needed = 0 })) b
 unfolding proposed
 no-model b n o x e =
     let m : ℕ = length (hall_in b n) - 1 in
     let count : length (state_in b n) - 1 ≡ m = ap (λ (i : ℕ). i - 1) (states_long (hall_in b n)) in
-    let lacks : item m (state_in b n) ≡ none = State-item m (hall_in b n) ∙ rw (drop_of_length-le (hall_in b n) {i = m} (omega arith)) in
+    let lacks : item m (state_in b n) ≡ None = State-item m (hall_in b n) ∙ rw (drop_of_length-le (hall_in b n) {i = m} (omega arith)) in
     stays_barred (add_geometry x) b n o 21 (rw (count, lacks))
 
 -- ---- what the code does, step by step
@@ -464,11 +463,12 @@ grown-small a e c h q l =
 few-units-of : (u parts a image : ℕ) → 16 * (1 + u + (parts + a)) ≡ image → image ≤ 67108864 → a ≤ 4194304
 few-units-of u parts a image e l = omega arith
 
+-- the checks of a geometry do not ask for its shader
 any_shader : (x : Given) (s : ℕ) → given_lowest (given_geometry x) ≡ given_lowest (given_geometry (record { shader = s; declaration = x.declaration; stride = x.stride; count = x.count; content = x.content; indices = x.indices }))
 unfolding given_lowest lowest_of vertex_bytes_exact strides_agree components_inside vertex_counts_agree index_counts_agree indices_in_range triangles_distinct
 any_shader x s = refl
 
-module _ (b : List ℕ) (n : ℕ) (o : Old b n) (x : Given) (r : Summary) (c : Counted (hall_in b n) r) (place : ℕ) (f : found_model (model_place (hall_in b n) (r.models - 1)) ≡ At place)
+module _ (b : List ℕ) (n : ℕ) (o : Old b n) (x : Given) (r : Summary) (c : Counted (hall_in b n) r) (place : ℕ) (f : (model_place (hall_in b n) (r.models - 1)) ≡ Some place)
     (size : ℕ) (es : size ≡ field 4 b place) where
   abbrev place_of : ModelThere (hall_in b n) (r.models - 1) place
   place_of = ModelThere_lem (hall_in b n) (r.models - 1) place f
@@ -506,7 +506,7 @@ module _ (b : List ℕ) (n : ℕ) (o : Old b n) (x : Given) (r : Summary) (c : C
       }
 
   module _ (own added lowest : ℕ)
-      (eo : own ≡ given_lowest (given_geometry (record { shader = 0; declaration = x.declaration; stride = x.stride; count = x.count; content = x.content; indices = x.indices })))
+      (eo : own ≡ given_lowest (given_geometry x))
       (ea : added + model_units ((size - 6) / 2) ≡ model_units ((size - 6) / 2 + 1) + geometry_units (length x.content) (length x.indices))
       (el : lowest ≡ min own (limits_lowest r.models (r.geometries + 1) (r.units + added))) where
     abbrev new-hall : Hall
@@ -516,9 +516,9 @@ module _ (b : List ℕ) (n : ℕ) (o : Old b n) (x : Given) (r : Summary) (c : C
     judged-as =
         let entries : (size - 6) / 2 ≡ length ended.mapping = omega (arith, size_of) in
         verdict-is b n o x (r.models - 1) last_one ended place_of.is r c ((size - 6) / 2) added entries ea
-        ∙ ap (λ (l : ℕ). verdict_of (min l (limits_lowest r.models (r.geometries + 1) (r.units + added)))) (any_shader x 0 ∙ sym eo) ∙ ap (λ (l : ℕ). verdict_of l) (sym el)
+        ∙ ap (λ (l : ℕ). verdict_of (min l (limits_lowest r.models (r.geometries + 1) (r.units + added)))) (sym eo) ∙ ap (λ (l : ℕ). verdict_of l) (sym el)
 
-    pub added-judged : lowest < passed → Stepped (add_geometry x) b n (Refused (record { check = check_of lowest; needed = 0 })) b
+    pub added-judged : lowest < passed → Stepped (add_geometry x) b n (Err (record { check = check_of lowest; needed = 0 })) b
     added-judged l = GeometryJudged_lem b n o x (r.models - 1) last_one ended place_of.is (check_of lowest) (judged-as ∙ rw (lt-leb passed lowest l))
 
     module _ (passing : passed ≤ lowest) where
@@ -528,13 +528,13 @@ module _ (b : List ℕ) (n : ℕ) (o : Old b n) (x : Given) (r : Summary) (c : C
       abbrev new-length : ℕ
       new-length = n + 67 + length x.content + 4 * length x.indices
 
-      pub added-long : length b < new-length → Stepped (add_geometry x) b n (Refused (record { check = 24; needed = new-length })) b
+      pub added-long : length b < new-length → Stepped (add_geometry x) b n (Err (record { check = 24; needed = new-length })) b
       added-long l = geometry-long b n o x (r.models - 1) last_one ended place_of.is new-sound l
 
       pub added-done : {q : Bool} {t t₂ u : List ℕ} → new-length ≤ length b
           → t ≡ overwrite b (place + 6 + size) (bytes 2 x.shader ++ part b (place + 6 + size) (n - (place + 6 + size)))
           → Edited (fits t place 4) t place (bytes 4 (size + 2)) q t₂ → u ≡ overwrite t₂ (n + 2) (write_geometry (listed_geometry (given_geometry x)))
-          → Stepped (add_geometry x) b n (Accepted new-length) u
+          → Stepped (add_geometry x) b n (Ok new-length) u
       added-done {q} {t} {t₂} {u} room gap longer put =
           let at : place + 6 + size ≡ place + 12 + 2 * length ended.mapping = omega (arith, size_of) in
           let number : size + 2 ≡ 6 + 2 * (length ended.mapping + 1) = omega (arith, size_of) in

@@ -22,8 +22,8 @@ use Rattle.halls.specs.State.{State, full_model, hall_of}
 use Rattle.halls.specs.Step.{state_in, rewritten, Stepped}
 use Rattle.halls.specs.Inner.Order.{passed, check_of, verdict_of}
 use Rattle.halls.specs.Inner.Walk.{units, limits_lowest, Counted}
-use Rattle.halls.specs.declared.answer.Answer.TheVariants.{Accepted, Refused}
-use Rattle.halls.specs.declared.check.check.Verdict.TheVariants.{Sound}
+use Rattle.std.specs.Prelude.{Ok, Err}
+use Rattle.halls.specs.Verdict.{Sound}
 use Rattle.halls.specs.declared.check.pass.Summary.{Summary}
 use Rattle.halls.proofs.check.LimitLaws.{EachPasses, limits_of, limits-verdict}
 use Rattle.halls.proofs.format.RecordLaws.{model-parts}
@@ -108,17 +108,17 @@ module _ (b : List ℕ) (n binding mask : ℕ) (o : Old b n) where
         limits-verdict result passes ∙ ap (λ (x : ℕ). verdict_of x) (sym (e ∙ limits_of result (r.models + 1) r.geometries (r.units + 3) models geometries size_is))
 
     module _ (lowest : ℕ) (e : lowest ≡ limits_lowest (r.models + 1) r.geometries (r.units + 3)) where
-      pub added-judged : lowest < passed → Stepped (add_model binding mask) b n (Refused (record { check = check_of lowest; needed = 0 })) b
+      pub added-judged : lowest < passed → Stepped (add_model binding mask) b n (Err (record { check = check_of lowest; needed = 0 })) b
       added-judged h = stays-judged (add_model binding mask) b n o result proposed-is (check_of lowest) (verdict-is lowest e ∙ rw (lt-leb passed lowest h))
 
       module _ (h : passed ≤ lowest) where
         sound : verdict result ≡ Sound
         sound = verdict-is lowest e ∙ rw (le-leb passed lowest h)
 
-        pub added-long : length b < n + 12 → Stepped (add_model binding mask) b n (Refused (record { check = 24; needed = n + 12 })) b
+        pub added-long : length b < n + 12 → Stepped (add_model binding mask) b n (Err (record { check = 24; needed = n + 12 })) b
         added-long l = stays_long (add_model binding mask) b n o result proposed-is sound (n + 12) (sym length-is) l
 
-        pub added-done : (t : List ℕ) → n + 12 ≤ length b → t ≡ overwrite b n (model_numbers 6 binding mask) → Stepped (add_model binding mask) b n (Accepted (n + 12)) t
+        pub added-done : (t : List ℕ) → n + 12 ≤ length b → t ≡ overwrite b n (model_numbers 6 binding mask) → Stepped (add_model binding mask) b n (Ok (n + 12)) t
         added-done t l w =
             let long : length (take n b) ≡ n = simp length-take (omega (arith, o.within)) in
             let start : b ≡ rewritten b n (take n b) = sym (rewritten-start b n o.within) in

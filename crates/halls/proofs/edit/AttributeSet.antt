@@ -1,8 +1,8 @@
 -- One attribute of one vertex set: the checks before it, where its bytes stand, and the hall that they leave.
+use Rattle.std.specs.Prelude.{Option, None, Some}
 use mathlib.Core.Path.{◌≡◌, refl, sym, ap, ◌∙◌}
 use mathlib.Core.Bool.{Bool, true, false, ◌&&◌}
 use mathlib.Core.List.{List, ◌++◌, append_assoc}
-use mathlib.Core.Option.{Option, none, some}
 use Prim.Native.Nat.{ℕ, suc, ◌+◌, ◌*◌, ◌≤◌, ◌<◌}
 use native.Mathlib.Nat.{mul-le-mul_right, suc-mul}
 use native.Mathlib.Omega.{arith}
@@ -11,12 +11,11 @@ use lib.ListN.{length, take, length-append, length-take}
 use Rattle.sections.specs.Edit.{overwrite, fits, Edited}
 use Rattle.sections.specs.Le.{field}
 use Rattle.sections.proofs.EditLaws.{overwrite-length}
-use Rattle.vertices.specs.Declaration.{component_of, declaration_at, found_component}
+use Rattle.vertices.specs.Declaration.{component_of, declaration_at}
 use Rattle.vertices.specs.Encode.{has_shape, encoded_bytes}
 use Rattle.vertices.specs.Types.{size_of}
 use Rattle.vertices.specs.declared.attribute.VertexAttributeValue.{VertexAttributeValue}
 use Rattle.vertices.specs.declared.declaration.VertexDeclaration.{VertexDeclaration}
-use Rattle.vertices.specs.declared.declaration.FoundComponent.TheVariants.{Component, Missing}
 use Rattle.vertices.specs.declared.types.VertexComponent.{VertexComponent}
 use Rattle.vertices.proofs.ComponentLaws.{component-among, found_within}
 use Rattle.vertices.proofs.EncodeLaws.{encoded-length}
@@ -26,13 +25,12 @@ use Rattle.halls.specs.Checks.{vertex_bytes_exact, strides_agree, components_ins
 use Rattle.halls.specs.Hall.{FullGeometry, FullModel, Hall, hall_bytes}
 use Rattle.halls.specs.ImageSize.{geometry_size, image_size}
 use Rattle.halls.specs.List.{record_bytes, geometry_record, indices_record}
-use Rattle.halls.specs.Places.{geometry_place, found_geometry}
+use Rattle.halls.specs.Places.{geometry_place}
 use Rattle.halls.specs.Reading.{read}
 use Rattle.halls.specs.State.{Geometry, vertex_count, full_geometry, full_model, hall_of}
 use Rattle.halls.specs.Step.{state_in, rewritten, Stepped}
-use Rattle.halls.specs.declared.answer.Answer.TheVariants.{Accepted, Refused}
-use Rattle.halls.specs.declared.check.check.Verdict.TheVariants.{Sound}
-use Rattle.halls.specs.declared.check.find.FoundGeometry.TheVariants.{Absent as NoGeometry}
+use Rattle.std.specs.Prelude.{Ok, Err}
+use Rattle.halls.specs.Verdict.{Sound}
 use Rattle.halls.proofs.edit.ChangedLaws.{changed_hall, bytes_before, bytes_behind, bytes-changed, image-changed, verdict-changed}
 use Rattle.halls.proofs.edit.RewrittenLaws.{rewritten-start, rewritten-over}
 use Rattle.halls.proofs.SoundLaws.{SoundGeometry}
@@ -140,27 +138,27 @@ module _ {b : List ℕ} {n m g at : ℕ} (w : Spot b n m g at) (i : ℕ) (v : Li
       ∙ rw (index-counts-pass, Indices-pass, triangles-pass, image-passes)
 
   -- a call that proposes it
-  pub content-step : (c : Call) → proposed c (state_in b n) ≡ read after → (t : List ℕ) → t ≡ overwrite b (at + 55 + i) v → Stepped c b n (Accepted n) t
+  pub content-step : (c : Call) → proposed c (state_in b n) ≡ read after → (t : List ℕ) → t ≡ overwrite b (at + 55 + i) v → Stepped c b n (Ok n) t
   content-step c e t q = becomes-new c b n w.old after e content-sound n t content_length_lem w.old.within (q ∙ content-buffer)
 
 -- ---- the call
 
-missing-none : (o : Option VertexComponent) → Missing ≡ found_component o → o ≡ none
-missing-none none e = refl
-missing-none (some c) e = let z : ◌≡◌ {A = ℕ} 0 1 = cc in absurd (omega arith)
+missing-none : (o : Option VertexComponent) → None ≡ o → o ≡ None
+missing-none None e = refl
+missing-none (Some c) e = let z : ◌≡◌ {A = ℕ} 0 1 = cc in absurd (omega arith)
 
-pub component-some : (o : Option VertexComponent) (c : VertexComponent) → Component c ≡ found_component o → o ≡ some c
-component-some none c e = let z : ◌≡◌ {A = ℕ} 0 1 = cc in absurd (omega arith)
-component-some (some d) c e = let same : c ≡ d = cc in ap some (sym same)
+pub component-some : (o : Option VertexComponent) (c : VertexComponent) → Some c ≡ o → o ≡ Some c
+component-some None c e = let z : ◌≡◌ {A = ℕ} 0 1 = cc in absurd (omega arith)
+component-some (Some d) c e = let same : c ≡ d = cc in ap Some (sym same)
 
 module _ (b : List ℕ) (n m g vertex semantic : ℕ) (value : VertexAttributeValue) where
   abbrev call : Call
   call = set_attribute m g vertex semantic value
 
   abbrev Refuses : ℕ → Type 0
-  Refuses check = Stepped call b n (Refused (record { check = check; needed = 0 })) b
+  Refuses check = Stepped call b n (Err (record { check = check; needed = 0 })) b
 
-  pub set-nowhere : Old b n → NoGeometry ≡ found_geometry (geometry_place (hall_in b n) m g) → Refuses 21
+  pub set-nowhere : Old b n → None ≡ (geometry_place (hall_in b n) m g) → Refuses 21
   unfolding proposed
   set-nowhere o e = stays_barred call b n o 21 (not_there o m g _ e)
 
@@ -175,14 +173,14 @@ module _ (b : List ℕ) (n m g vertex semantic : ℕ) (value : VertexAttributeVa
       below : vertex < vertex_count w.geometry
       below = omega (arith, Spot-count w)
 
-      pub set-missing : Missing ≡ found_component (component_of (declaration_at b (at + 26)) semantic) → Refuses 22
+      pub set-missing : None ≡ (component_of (declaration_at b (at + 26)) semantic) → Refuses 22
       unfolding proposed attribute_set
       set-missing e =
-          let absent : component_of w.geometry.declaration semantic ≡ none = ap (λ (d : VertexDeclaration). component_of d semantic) (sym (Spot-declaration w)) ∙ missing-none (component_of (declaration_at b (at + 26)) semantic) e in
+          let absent : component_of w.geometry.declaration semantic ≡ None = ap (λ (d : VertexDeclaration). component_of d semantic) (sym (Spot-declaration w)) ∙ missing-none (component_of (declaration_at b (at + 26)) semantic) e in
           stays_barred call b n w.old 22 (rw (w.model_is, w.geometry-is, lt-ltb vertex (vertex_count w.geometry) below, absent))
 
-      module _ (c : VertexComponent) (found : component_of (declaration_at b (at + 26)) semantic ≡ some c) where
-        component_is : component_of w.geometry.declaration semantic ≡ some c
+      module _ (c : VertexComponent) (found : component_of (declaration_at b (at + 26)) semantic ≡ Some c) where
+        component_is : component_of w.geometry.declaration semantic ≡ Some c
         component_is = ap (λ (d : VertexDeclaration). component_of d semantic) (sym (Spot-declaration w)) ∙ found
 
         pub set-no-size : c.size ≡ 0 → Refuses 22
@@ -215,7 +213,7 @@ module _ (b : List ℕ) (n m g vertex semantic : ℕ) (value : VertexAttributeVa
 
         pub set-done : (c.size ≡ 0 → ⊥) → has_shape c.component_type value ≡ true → {k : ℕ} → k ≡ field 2 b (at + 18) → {place : ℕ} → place ≡ at + 55 + vertex * k + c.offset
             → {r : Bool} {t : List ℕ} → Edited (has_shape c.component_type value && fits b place (size_of c.component_type)) b place (encoded_bytes c.component_type value) r t
-            → Stepped call b n (Accepted n) t
+            → Stepped call b n (Ok n) t
         unfolding proposed attribute_set
         set-done z shape {k} e {place} q {r} {t} edited =
             let v : List ℕ = encoded_bytes c.component_type value in

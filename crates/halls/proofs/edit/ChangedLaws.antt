@@ -1,8 +1,8 @@
 -- A hall with another geometry in the place of one: the checks, the image's length, and the bytes of its list.
+use Rattle.std.specs.Prelude.{Some}
 use mathlib.Core.Path.{◌≡◌, sym, ap, ◌∙◌}
 use mathlib.Core.Bool.{Bool, true}
 use mathlib.Core.List.{List, [], ◌∷◌, ◌++◌, map, append_assoc, map-append}
-use mathlib.Core.Option.{some}
 use Prim.Native.Nat.{ℕ, zero, suc, ◌+◌, ◌*◌}
 use native.Mathlib.Omega.{arith}
 use lib.ListN.{length, take, drop, length-append, length-take, length-drop}
@@ -14,7 +14,7 @@ use Rattle.halls.specs.Hall.{FullGeometry, FullModel, Hall, listed_geometry, lis
 use Rattle.halls.specs.ImageSize.{geometry_size, model_size, image_size}
 use Rattle.halls.specs.List.{each, model_body, model_record, write_geometry, write_geometries, write_model}
 use Rattle.halls.specs.Places.{item}
-use Rattle.halls.specs.declared.check.check.Verdict.TheVariants.{Sound}
+use Rattle.halls.specs.Verdict.{Sound}
 use Rattle.halls.proofs.format.BodyLaws.{model_body-length}
 use Rattle.halls.proofs.read.EachLaws.{each_append}
 use Rattle.halls.proofs.EveryLaws.{and_true, every-each}
@@ -25,15 +25,15 @@ use Rattle.halls.proofs.read.ViewLaws.{Record-length}
 -- ---- lists
 
 module _ {A : Type 0} where
-  pub length-replaced : (i : ℕ) (xs : List A) (x y : A) → item i xs ≡ some x → length (replaced i y xs) ≡ length xs
+  pub length-replaced : (i : ℕ) (xs : List A) (x y : A) → item i xs ≡ Some x → length (replaced i y xs) ≡ length xs
   length-replaced i xs x y e = let d = item-within i xs x e in simp (length-append, length-take, length-drop) (omega arith)
 
   module _ (test : A → Bool) where
-    every-item : (i : ℕ) (xs : List A) (x : A) → item i xs ≡ some x → every test xs ≡ true → test x ≡ true
+    every-item : (i : ℕ) (xs : List A) (x : A) → item i xs ≡ Some x → every test xs ≡ true → test x ≡ true
     every-item i xs x e w = each_item (λ (a : A). test a ≡ true) i xs x e (every-each test xs w)
 
     -- only the new one is left to test
-    every-replaced : (i : ℕ) (xs : List A) (x y : A) → item i xs ≡ some x → every test xs ≡ true → every test (replaced i y xs) ≡ test y
+    every-replaced : (i : ℕ) (xs : List A) (x y : A) → item i xs ≡ Some x → every test xs ≡ true → every test (replaced i y xs) ≡ test y
     unfolding every
     every-replaced zero [] x y e w = let z : ◌≡◌ {A = ℕ} 0 1 = cc in absurd (omega arith)
     every-replaced (suc i) [] x y e w = let z : ◌≡◌ {A = ℕ} 0 1 = cc in absurd (omega arith)
@@ -44,7 +44,7 @@ module _ {A : Type 0} where
 
 module _ {A B : Type 0} (f : A → B) where
   -- one that is as the old one for f
-  pub map_same : (i : ℕ) (xs : List A) (x y : A) → item i xs ≡ some x → f y ≡ f x → map f (replaced i y xs) ≡ map f xs
+  pub map_same : (i : ℕ) (xs : List A) (x y : A) → item i xs ≡ Some x → f y ≡ f x → map f (replaced i y xs) ≡ map f xs
   map_same i xs x y e same =
       map-replaced f i y xs ∙ ap (λ (b : B). replaced i b (map f xs)) same ∙ sym (map-replaced f i x xs) ∙ ap (map f) (sym (split-item i xs x e))
 
@@ -85,7 +85,7 @@ before-length m g h x =
     let head : length (model_record (listed_model x)) ≡ 12 + 2 * length x.mapping = Record-length 1 (model_body (listed_model x)) ∙ omega (arith, model_body-length x) in
     rw (length-append (hall_bytes (take m h)), length-append (model_record (listed_model x))) (omega arith)
 
-module _ (h : Hall) (m g : ℕ) (x : FullModel) (f : FullGeometry) (em : item m h ≡ some x) (eg : item g x.geometries ≡ some f) where
+module _ (h : Hall) (m g : ℕ) (x : FullModel) (f : FullGeometry) (em : item m h ≡ Some x) (eg : item g x.geometries ≡ Some f) where
   -- with the geometry itself it is the hall
   pub SameHall_lem : changed_hall m g h x f ≡ h
   SameHall_lem = ap (λ (l : List FullGeometry). replaced m (record { binding = x.binding; mask = x.mask; mapping = x.mapping; geometries = l }) h) (sym (split-item g x.geometries f eg)) ∙ sym (split-item m h x em)

@@ -1,28 +1,27 @@
 -- What at most 16,384 geometries of small sections come to fits its fields.
+use Rattle.std.specs.Prelude.{Option, None, Some, option_map}
 use mathlib.Core.Path.{◌≡◌, refl, subst}
 use mathlib.Core.List.{List, [], ◌∷◌}
-use mathlib.Core.Option.{Option, none, some, map}
 use Prim.Native.Nat.{ℕ, ◌+◌, ◌*◌, ◌^◌, ◌<◌, ◌≤◌}
 use native.Mathlib.Omega.{arith}
 use lib.ListN.{length, length-append}
-use Rattle.sections.specs.Address.{Sections, range_of, resolved}
-use Rattle.vertices.specs.declared.buffer.FoundBuffer.{FoundBuffer}
-use Rattle.vertices.specs.declared.buffer.FoundBuffer.TheVariants.{Buffer, NotFound}
+use Rattle.sections.specs.Address.{Sections, resolved}
+use Rattle.vertices.specs.declared.buffer.VertexBuffer.{VertexBuffer}
 use Rattle.halls.specs.Blocks.{GeometryBlock, geometry_block}
 use Rattle.halls.specs.Every.{Each}
 use Rattle.halls.specs.List.{Geometry, Model}
 use Rattle.halls.specs.Inner.Measure.{geometries_in}
-use Rattle.halls.specs.Reading.{or_empty, vertices_of, geometry_of}
+use Rattle.halls.specs.Reading.{vertices_of, geometry_of}
+use Rattle.halls.specs.Inner.Small.{Small}
 use Rattle.halls.specs.Inner.Taking.{indices_shown, geometry_shown, content_in, held_in, geometry_taken, all_taken, model_taken, Fitting}
-use Rattle.halls.specs.Inner.View.{buffer_in, BufferHeld, IndicesHeld, geometry_view, model_in, models_at}
+use Rattle.halls.specs.Inner.View.{ViewHeld, BufferHeld, IndicesHeld, bytes_seen, geometry_view, model_in, models_at}
 use Rattle.halls.specs.declared.edit.judge_read.Taken.{Taken}
-use Rattle.halls.specs.declared.read.view.FoundIndices.{FoundIndices}
-use Rattle.halls.specs.declared.read.view.FoundIndices.TheVariants.{Indices as Seen, Absent as Unseen}
 use Rattle.halls.specs.declared.read.view.GeometryView.{GeometryView}
+use Rattle.halls.specs.declared.read.view.IndexView.{IndexView}
 use Rattle.halls.proofs.read.HeldLaws.{items_length_lem, held-few}
 use Rattle.halls.proofs.edit.ReadEach.{models-each}
 use Rattle.halls.proofs.edit.ShownLaws.{shown-is}
-use Rattle.halls.proofs.read.ViewRecords.{Small, ViewHeld, ViewHeld_lem}
+use Rattle.halls.proofs.read.ViewRecords.{ViewHeld_lem}
 
 -- ---- geometries
 
@@ -30,15 +29,13 @@ pub record SmallGeometry (g : Geometry) : Type 0 where
   pub content : content_in g.vertices < 2 ^ 31
   pub held : held_in g.indices < 2 ^ 29
 
-content-small : (s : Sections) (f : FoundBuffer) → BufferHeld s f → content_in (map (vertices_of s) (buffer_in f)) < 2 ^ 31
-content-small s NotFound h = omega arith
-content-small s (Buffer b) h = h.1
+content-small : (s : Sections) (f : Option VertexBuffer) → BufferHeld s f → content_in (option_map (vertices_of s) f) < 2 ^ 31
+content-small s None h = omega arith
+content-small s (Some b) h = h.1
 
-held_small : (s : Sections) (f : FoundIndices) → IndicesHeld s f → held_in (indices_shown s f) < 2 ^ 29
-held_small s Unseen h = omega arith
-held_small s (Seen v) h =
-    let raw : List ℕ = or_empty (range_of s v.place (v.count * v.width)) in
-    rw (items_length_lem v raw) (held-few v raw h)
+held_small : (s : Sections) (f : Option IndexView) → IndicesHeld s f → held_in (indices_shown s f) < 2 ^ 29
+held_small s None h = omega arith
+held_small s (Some v) h = rw (items_length_lem v (bytes_seen s v)) (held-few v (bytes_seen s v) h)
 
 shown-small : (s : Sections) (v : GeometryView) → ViewHeld s v → SmallGeometry (geometry_shown s v)
 unfolding geometry_shown
@@ -84,8 +81,8 @@ models_light (m ∷ ms) h =
 -- ---- as many models as pointers
 
 in_few : (s : Sections) (o : Option (List ℕ)) → length (model_in s o) ≤ 1
-in_few s none = omega arith
-in_few s (some b) = omega arith
+in_few s None = omega arith
+in_few s (Some b) = omega arith
 
 models_few : (s : Sections) (ps : List ℕ) → length (models_at s ps) ≤ length ps
 unfolding models_at

@@ -22,7 +22,7 @@ use Rattle.halls.specs.Inner.Order.{passed, too_large, verdict_of}
 use Rattle.halls.specs.Inner.NewIndices.{indices_verdict, indices_of, with_new_indices}
 use Rattle.halls.specs.Step.{rewritten}
 use Rattle.halls.specs.Inner.Walk.{units}
-use Rattle.halls.specs.declared.check.check.Verdict.{Verdict}
+use Rattle.halls.specs.Verdict.{Verdict}
 use Rattle.halls.proofs.format.BodyLaws.{indices_body-length}
 use Rattle.halls.proofs.edit.RewrittenLaws.{rewritten-length, rewritten-over}
 use Rattle.halls.proofs.read.ViewLaws.{Record-length}

@@ -20,15 +20,15 @@ use Rattle.halls.specs.Hall.{FullGeometry, FullModel, Hall, hall_bytes}
 use Rattle.halls.specs.ImageSize.{geometry_size, model_size, image_size}
 use Rattle.halls.specs.List.{indices_record}
 use Rattle.halls.specs.Inner.NewIndices.{indices_verdict, indices_of, with_new_indices}
-use Rattle.halls.specs.Places.{geometry_place, found_geometry}
+use Rattle.halls.specs.Places.{geometry_place}
 use Rattle.halls.specs.Reading.{read}
 use Rattle.halls.specs.State.{Geometry, vertex_count, full_geometry, full_model, hall_of}
 use Rattle.halls.specs.Step.{state_in, rewritten, Stepped}
 use Rattle.halls.specs.Inner.Walk.{Counted, units}
 use Rattle.halls.specs.Inner.Order.{passed, check_of, verdict_of}
-use Rattle.halls.specs.declared.answer.Answer.TheVariants.{Accepted, Refused}
-use Rattle.halls.specs.declared.check.check.Verdict.TheVariants.{Sound}
-use Rattle.halls.specs.declared.check.find.FoundGeometry.TheVariants.{Absent as NoGeometry}
+use Rattle.std.specs.Prelude.{Ok, Err}
+use Rattle.halls.specs.Verdict.{Sound}
+use Rattle.std.specs.Prelude.{None}
 use Rattle.halls.specs.declared.check.pass.Summary.{Summary}
 use Rattle.halls.proofs.edit.ChangedLaws.{changed_hall, bytes_before, bytes_behind, bytes-changed, image-changed, verdict-changed}
 use Rattle.halls.proofs.check.LimitLaws.{sixteenth}
@@ -43,8 +43,8 @@ thirds : (k : ℕ) (t : Bool) → eqb (k % 3) 0 ≡ t → eqb k (3 * (k / 3)) �
 thirds k true e = let z : k % 3 ≡ 0 = eqb-true (k % 3) 0 e in eq-eqb k (3 * (k / 3)) (omega arith)
 thirds k false e = ne_eqb k (3 * (k / 3)) (λ p. let z : k % 3 ≡ 0 = omega arith in let y = sym (eq-eqb (k % 3) 0 z) ∙ e in absurd (subst T y tt))
 
-pub replaced-nowhere : (b : List ℕ) (n m g : ℕ) (xs : List ℕ) → Old b n → NoGeometry ≡ found_geometry (geometry_place (hall_in b n) m g)
-    → Stepped (replace_indices m g xs) b n (Refused (record { check = 21; needed = 0 })) b
+pub replaced-nowhere : (b : List ℕ) (n m g : ℕ) (xs : List ℕ) → Old b n → None ≡ (geometry_place (hall_in b n) m g)
+    → Stepped (replace_indices m g xs) b n (Err (record { check = 21; needed = 0 })) b
 unfolding proposed
 replaced-nowhere b n m g xs o e = stays_barred (replace_indices m g xs) b n o 21 (not_there o m g _ e)
 
@@ -238,7 +238,7 @@ module _ {b : List ℕ} {n m g at : ℕ} (w : Spot b n m g at) (xs : List ℕ) w
               new-verdict r c ∙ ap (λ (z : ℕ). indices_verdict xs z r.models (r.units - units (2 * held) + units (2 * length xs))) (sym (count ∙ Spot-count w))
               ∙ ap (λ (z : ℕ). indices_verdict xs k r.models (r.units - units (2 * z) + units (2 * length xs))) (sym held-is) ∙ sym v
 
-          pub replaced-fails : lowest < passed → Stepped call b n (Refused (record { check = check_of lowest; needed = 0 })) b
+          pub replaced-fails : lowest < passed → Stepped call b n (Err (record { check = check_of lowest; needed = 0 })) b
           replaced-fails f = stays-judged call b n w.old after proposed-is (check_of lowest) (verdict-after ∙ rw (lt-leb passed lowest f))
 
           module _ (p : passed ≤ lowest) where
@@ -255,11 +255,11 @@ module _ {b : List ℕ} {n m g at : ℕ} (w : Spot b n m g at) (xs : List ℕ) w
             needed-is : n - 4 * q + 4 * length xs ≡ length (hall_bytes after)
             needed-is = ap (λ (z : ℕ). n - 4 * z + 4 * length xs) held-is ∙ new-length
 
-            pub replaced-long : length b < n - 4 * q + 4 * length xs → Stepped call b n (Refused (record { check = 24; needed = n - 4 * q + 4 * length xs })) b
+            pub replaced-long : length b < n - 4 * q + 4 * length xs → Stepped call b n (Err (record { check = 24; needed = n - 4 * q + 4 * length xs })) b
             replaced-long short = stays_long call b n w.old after proposed-is after-sound (n - 4 * q + 4 * length xs) needed-is short
 
             pub replaced-done : n - 4 * q + 4 * length xs ≤ length b → {t : List ℕ} → t ≡ rewritten b n (with_new_indices (take n b) at (at + 55 + k * l) (at + 55 + k * l + 10 + 4 * q) xs)
-                → Stepped call b n (Accepted (n - 4 * q + 4 * length xs)) t
+                → Stepped call b n (Ok (n - 4 * q + 4 * length xs)) t
             replaced-done fit {t} e =
                 becomes-new call b n w.old after proposed-is after-sound (n - 4 * q + 4 * length xs) t needed-is fit
                 (e ∙ ap (λ (z : ℕ). rewritten b n (with_new_indices (take n b) at z (z + 10 + 4 * q) xs)) start_is

@@ -1,7 +1,7 @@
 -- What holds of the geometry of every block that resolves holds of all geometries that are read; and so of models.
+use Rattle.std.specs.Prelude.{Option, None, Some}
 use mathlib.Core.Path.{◌≡◌, refl}
 use mathlib.Core.List.{List, [], ◌∷◌}
-use mathlib.Core.Option.{Option, none, some}
 use Prim.Native.Nat.{ℕ}
 use Rattle.sections.specs.Address.{Sections, resolved}
 use Rattle.halls.specs.Blocks.{geometry_block, ModelBlock, model_block}
@@ -13,11 +13,11 @@ use Rattle.halls.proofs.edit.SoundEdits.{each-join}
 
 -- ---- models
 
-module _ (s : Sections) (P : Model → Type 0) (f : (pointer : ℕ) (b : List ℕ) → resolved s pointer 0x30 ≡ some b → P (model_of s (model_block b))) where
-  model_in_lem : (o : Option (List ℕ)) → ((b : List ℕ) → o ≡ some b → P (model_of s (model_block b))) → Each P (model_in s o)
+module _ (s : Sections) (P : Model → Type 0) (f : (pointer : ℕ) (b : List ℕ) → resolved s pointer 0x30 ≡ Some b → P (model_of s (model_block b))) where
+  model_in_lem : (o : Option (List ℕ)) → ((b : List ℕ) → o ≡ Some b → P (model_of s (model_block b))) → Each P (model_in s o)
   unfolding Each
-  model_in_lem none g = tt
-  model_in_lem (some b) g = (g b refl, tt)
+  model_in_lem None g = tt
+  model_in_lem (Some b) g = (g b refl, tt)
 
   pub each-model : (ps : List ℕ) → Each P (models_at s ps)
   unfolding Each models_at
@@ -27,11 +27,11 @@ module _ (s : Sections) (P : Model → Type 0) (f : (pointer : ℕ) (b : List �
 -- ---- their geometries
 
 module _ (s : Sections) (P : Geometry → Type 0)
-    (f : (shader pointer : ℕ) (b : List ℕ) → resolved s pointer 0x98 ≡ some b → P (geometry_of s shader (geometry_block b))) where
-  geometry_in_lem : (shader : ℕ) (o : Option (List ℕ)) → ((b : List ℕ) → o ≡ some b → P (geometry_of s shader (geometry_block b))) → Each P (geometry_in s shader o)
+    (f : (shader pointer : ℕ) (b : List ℕ) → resolved s pointer 0x98 ≡ Some b → P (geometry_of s shader (geometry_block b))) where
+  geometry_in_lem : (shader : ℕ) (o : Option (List ℕ)) → ((b : List ℕ) → o ≡ Some b → P (geometry_of s shader (geometry_block b))) → Each P (geometry_in s shader o)
   unfolding Each
-  geometry_in_lem shader none g = tt
-  geometry_in_lem shader (some b) g = (g b refl, tt)
+  geometry_in_lem shader None g = tt
+  geometry_in_lem shader (Some b) g = (g b refl, tt)
 
   geometries-each : (shaders ps : List ℕ) → Each P (geometries_at s shaders ps)
   unfolding Each geometries_at

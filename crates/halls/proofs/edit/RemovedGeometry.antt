@@ -1,8 +1,8 @@
 -- A geometry taken out of a hall: where its records and its mapping entry stand, and what the call comes to.
+use Rattle.std.specs.Prelude.{Option, None, Some}
 use mathlib.Core.Path.{◌≡◌, refl, sym, ap, ◌∙◌, subst}
 use mathlib.Core.Bool.{Bool, ◌&&◌}
 use mathlib.Core.List.{List, ◌∷◌, ◌++◌, map, map-append, append_assoc}
-use mathlib.Core.Option.{Option, none, some}
 use Prim.Native.Nat.{ℕ, suc, ◌+◌, ◌*◌, ◌-◌, ◌^◌, ◌≤◌, ◌<◌}
 use native.Mathlib.Omega.{arith}
 use borrow.Author.Tests.{le-leb}
@@ -19,14 +19,13 @@ use Rattle.halls.specs.Checks.{shader_ids, verdict}
 use Rattle.halls.specs.Hall.{FullGeometry, FullModel, Hall, FullGeometryInWidth, FullModelInWidth, listed_geometry, hall_bytes}
 use Rattle.halls.specs.ImageSize.{geometry_size, model_size}
 use Rattle.halls.specs.List.{record_bytes, indices_body, geometry_record, declaration_record, vertices_record, indices_record, write_geometry}
-use Rattle.halls.specs.Places.{item, places_from, geometry_place, found_geometry}
+use Rattle.halls.specs.Places.{item, places_from, geometry_place}
 use Rattle.halls.specs.Reading.{refused, read}
 use Rattle.halls.specs.State.{Geometry, geometry_state, model_state, hall_of}
 use Rattle.halls.specs.Step.{state_in, rewritten, Stepped}
-use Rattle.halls.specs.declared.answer.Answer.{Answer}
-use Rattle.halls.specs.declared.answer.Answer.TheVariants.{Accepted, Refused}
-use Rattle.halls.specs.declared.check.check.Verdict.TheVariants.{Sound}
-use Rattle.halls.specs.declared.check.find.FoundGeometry.TheVariants.{At, Absent}
+use Rattle.std.specs.Prelude.{Result, Ok, Err}
+use Rattle.halls.specs.declared.answer.Refusal.{Refusal}
+use Rattle.halls.specs.Verdict.{Sound}
 use Rattle.halls.specs.declared.check.find.GeometryPlace.{GeometryPlace}
 use Rattle.halls.proofs.format.BodyLaws.{indices_body-length}
 use Rattle.halls.proofs.check.CutLaws.{number-between, over-between, moved-part, cut_others, cut_parts, geometries_bytes, record_front, whole_parts, less-parts}
@@ -41,56 +40,56 @@ use Rattle.halls.proofs.read.ViewLaws.{geometry_record-length, declaration_recor
 
 pub record GeometryThere (h : Hall) (m g : ℕ) (places : GeometryPlace) : Type 0 where
   pub it : FullModel
-  pub is : item m h ≡ some it
+  pub is : item m h ≡ Some it
   pub geometry : FullGeometry
-  pub has : item g it.geometries ≡ some geometry
+  pub has : item g it.geometries ≡ Some geometry
   pub begin : places ≡ places_from (length (hall_bytes (take m h))) (length (hall_bytes (take m h)) + (12 + 2 * length it.mapping) + length (geometries_bytes (take g it.geometries))) geometry
 
 module _ (h : Hall) (m g : ℕ) where
   -- found is what is there
-  pub place_found : (places : GeometryPlace) → found_geometry (geometry_place h m g) ≡ At places → geometry_place h m g ≡ some places
+  pub place_found : (places : GeometryPlace) → (geometry_place h m g) ≡ Some places → geometry_place h m g ≡ Some places
   place_found places e = by (geometry_place h m g) refl
     where
-      by : (o : Option GeometryPlace) → geometry_place h m g ≡ o → geometry_place h m g ≡ some places
-      by none q = let clash : Absent ≡ At places = rw q at e in let z : ◌≡◌ {A = ℕ} 0 1 = cc in absurd (omega arith)
-      by (some p) q = let same : At p ≡ At places = rw q at e in q ∙ cc
+      by : (o : Option GeometryPlace) → geometry_place h m g ≡ o → geometry_place h m g ≡ Some places
+      by None q = let clash : None ≡ Some places = rw q at e in let z : ◌≡◌ {A = ℕ} 0 1 = cc in absurd (omega arith)
+      by (Some p) q = let same : Some p ≡ Some places = rw q at e in q ∙ cc
 
-  pub GeometryThere_lem : (places : GeometryPlace) → geometry_place h m g ≡ some places → GeometryThere h m g places
+  pub GeometryThere_lem : (places : GeometryPlace) → geometry_place h m g ≡ Some places → GeometryThere h m g places
   unfolding geometry_place
   GeometryThere_lem places e = by (item m h) refl
     where
-      by-geometry : (x : FullModel) → item m h ≡ some x → (o : Option FullGeometry) → item g x.geometries ≡ o → GeometryThere h m g places
-      by-geometry x q none r = let clash : none ≡ some places = rw (q, r) at e in let z : ◌≡◌ {A = ℕ} 0 1 = cc in absurd (omega arith)
-      by-geometry x q (some y) r =
-          let same : some (places_from (length (hall_bytes (take m h))) (length (hall_bytes (take m h)) + (12 + 2 * length x.mapping) + length (geometries_bytes (take g x.geometries))) y) ≡ some places = rw (q, r) at e in
+      by-geometry : (x : FullModel) → item m h ≡ Some x → (o : Option FullGeometry) → item g x.geometries ≡ o → GeometryThere h m g places
+      by-geometry x q None r = let clash : None ≡ Some places = rw (q, r) at e in let z : ◌≡◌ {A = ℕ} 0 1 = cc in absurd (omega arith)
+      by-geometry x q (Some y) r =
+          let same : Some (places_from (length (hall_bytes (take m h))) (length (hall_bytes (take m h)) + (12 + 2 * length x.mapping) + length (geometries_bytes (take g x.geometries))) y) ≡ Some places = rw (q, r) at e in
           record { it = x; is = q; geometry = y; has = r; begin = cc }
 
       by : (o : Option FullModel) → item m h ≡ o → GeometryThere h m g places
-      by none q = let clash : none ≡ some places = rw q at e in let z : ◌≡◌ {A = ℕ} 0 1 = cc in absurd (omega arith)
-      by (some x) q = by-geometry x q (item g x.geometries) refl
+      by None q = let clash : None ≡ Some places = rw q at e in let z : ◌≡◌ {A = ℕ} 0 1 = cc in absurd (omega arith)
+      by (Some x) q = by-geometry x q (item g x.geometries) refl
 
 -- ---- no such geometry
 
 module _ (b : List ℕ) (n : ℕ) (o : Old b n) (m g : ℕ) where
-  barred : found_geometry (geometry_place (hall_in b n) m g) ≡ Absent → proposed (remove_geometry m g) (state_in b n) ≡ refused 21
+  barred : (geometry_place (hall_in b n) m g) ≡ None → proposed (remove_geometry m g) (state_in b n) ≡ refused 21
   unfolding geometry_place proposed
   barred e = by (item m (hall_in b n)) refl
     where
-      by-geometry : (x : FullModel) → item m (hall_in b n) ≡ some x → (i : Option FullGeometry) → item g x.geometries ≡ i → proposed (remove_geometry m g) (state_in b n) ≡ refused 21
-      by-geometry x q none r =
-          let there : item m (state_in b n) ≡ some (model_state x) = State-item m (hall_in b n) ∙ rw q in
-          let lacks : item g (map geometry_state x.geometries) ≡ none = item-map geometry_state g x.geometries ∙ rw r in
+      by-geometry : (x : FullModel) → item m (hall_in b n) ≡ Some x → (i : Option FullGeometry) → item g x.geometries ≡ i → proposed (remove_geometry m g) (state_in b n) ≡ refused 21
+      by-geometry x q None r =
+          let there : item m (state_in b n) ≡ Some (model_state x) = State-item m (hall_in b n) ∙ rw q in
+          let lacks : item g (map geometry_state x.geometries) ≡ None = item-map geometry_state g x.geometries ∙ rw r in
           rw (there, lacks)
-      by-geometry x q (some y) r =
-          let clash : At (places_from (length (hall_bytes (take m (hall_in b n)))) (length (hall_bytes (take m (hall_in b n))) + (12 + 2 * length x.mapping) + length (geometries_bytes (take g x.geometries))) y) ≡ Absent = rw (q, r) at e in
+      by-geometry x q (Some y) r =
+          let clash : Some (places_from (length (hall_bytes (take m (hall_in b n)))) (length (hall_bytes (take m (hall_in b n))) + (12 + 2 * length x.mapping) + length (geometries_bytes (take g x.geometries))) y) ≡ None = rw (q, r) at e in
           let z : ◌≡◌ {A = ℕ} 0 1 = cc in absurd (omega arith)
 
       by : (i : Option FullModel) → item m (hall_in b n) ≡ i → proposed (remove_geometry m g) (state_in b n) ≡ refused 21
-      by none q = let lacks : item m (state_in b n) ≡ none = State-item m (hall_in b n) ∙ rw q in rw lacks
-      by (some x) q = by-geometry x q (item g x.geometries) refl
+      by None q = let lacks : item m (state_in b n) ≡ None = State-item m (hall_in b n) ∙ rw q in rw lacks
+      by (Some x) q = by-geometry x q (item g x.geometries) refl
 
-  pub geometry-lacks : (r : Answer) → found_geometry (geometry_place (hall_in b n) m g) ≡ Absent → r ≡ Refused (record { check = 21; needed = 0 }) → Stepped (remove_geometry m g) b n r b
-  geometry-lacks r e f = subst (λ (x : Answer). Stepped (remove_geometry m g) b n x b) (sym f) (stays_barred (remove_geometry m g) b n o 21 (barred e))
+  pub geometry-lacks : (r : Result ℕ Refusal) → (geometry_place (hall_in b n) m g) ≡ None → r ≡ Err (record { check = 21; needed = 0 }) → Stepped (remove_geometry m g) b n r b
+  geometry-lacks r e f = subst (λ (x : Result ℕ Refusal). Stepped (remove_geometry m g) b n x b) (sym f) (stays_barred (remove_geometry m g) b n o 21 (barred e))
 
 -- ---- one that is there
 
@@ -153,8 +152,8 @@ module _ (b : List ℕ) (n : ℕ) (o : Old b n) (m g : ℕ) (places : GeometryPl
   proposed-is : proposed (remove_geometry m g) (state_in b n) ≡ read (replaced m less h)
   unfolding proposed
   proposed-is =
-      let there : item m (state_in b n) ≡ some (model_state x) = State-item m h ∙ rw w.is in
-      let has : item g (map geometry_state gs) ≡ some (geometry_state y) = item-map geometry_state g gs ∙ rw w.has in
+      let there : item m (state_in b n) ≡ Some (model_state x) = State-item m h ∙ rw w.is in
+      let has : item g (map geometry_state gs) ≡ Some (geometry_state y) = item-map geometry_state g gs ∙ rw w.has in
       rw (there, has) (ap read
       (ap (λ (l : List Geometry). hall_of (replaced m (with_geometries (model_state x) l) (state_in b n))) (sym (map-without geometry_state g gs))
       ∙ hall-replaced m (model_state less) (state_in b n)
@@ -363,7 +362,7 @@ module _ (b : List ℕ) (n : ℕ) (o : Old b n) (m g : ℕ) (places : GeometryPl
         let all : length (hall_bytes (replaced m less h)) ≡ length kept + length (between ++ behind) = ap length (less-is ∙ three-first models-before (sized (length less.mapping)) front (between ++ behind)) ∙ length-append kept (between ++ behind) in
         omega (arith, kept-long, length-append between behind, between-place, gone-place, behind-place)
 
-    pub geometry-cut : Stepped (remove_geometry m g) b n (Accepted (n - (end - at) - 2)) u
+    pub geometry-cut : Stepped (remove_geometry m g) b n (Ok (n - (end - at) - 2)) u
     geometry-cut =
         let v : List ℕ = kept ++ (between ++ behind) in
         let two : length entry-bytes ≡ 2 = length-bytes 2 y.shader in

@@ -1,7 +1,7 @@
 -- A model taken out of a hall: where it begins and ends, and what the call comes to.
+use Rattle.std.specs.Prelude.{Option, None, Some}
 use mathlib.Core.Path.{◌≡◌, refl, sym, ap, ◌∙◌, subst}
 use mathlib.Core.List.{List, ◌++◌}
-use mathlib.Core.Option.{Option, none, some}
 use Prim.Native.Nat.{ℕ, suc, ◌+◌, ◌-◌, ◌≤◌}
 use native.Mathlib.Numerals.{add-one}
 use native.Mathlib.Omega.{arith}
@@ -9,13 +9,12 @@ use lib.ListN.{length, take, drop, length-append, take-append-drop}
 use lib.Seq.{take-take, take_at, drop_at}
 use Rattle.halls.specs.Calls.{remove_model, proposed, without}
 use Rattle.halls.specs.Hall.{FullModel, Hall, hall_bytes}
-use Rattle.halls.specs.Places.{item, model_place, found_model}
+use Rattle.halls.specs.Places.{item, model_place}
 use Rattle.halls.specs.Reading.{read}
 use Rattle.halls.specs.State.{model_state}
 use Rattle.halls.specs.Step.{state_in, rewritten, Stepped}
-use Rattle.halls.specs.declared.answer.Answer.{Answer}
-use Rattle.halls.specs.declared.answer.Answer.TheVariants.{Accepted, Refused}
-use Rattle.halls.specs.declared.check.find.FoundModel.TheVariants.{At, Absent}
+use Rattle.std.specs.Prelude.{Result, Ok, Err}
+use Rattle.halls.specs.declared.answer.Refusal.{Refusal}
 use Rattle.halls.proofs.edit.SoundEdits.{State-item, hall-without, hall_bytes-append, sound-without}
 use Rattle.halls.proofs.edit.StepLaws.{hall_in, Old, stays_barred, becomes-new}
 
@@ -23,25 +22,25 @@ use Rattle.halls.proofs.edit.StepLaws.{hall_in, Old, stays_barred, becomes-new}
 
 pub record ModelThere (h : Hall) (m place : ℕ) : Type 0 where
   pub it : FullModel
-  pub is : item m h ≡ some it
+  pub is : item m h ≡ Some it
   pub begins : place ≡ length (hall_bytes (take m h))
 
 module _ (h : Hall) (m : ℕ) where
-  pub model-none : found_model (model_place h m) ≡ Absent → item m h ≡ none
+  pub model-none : (model_place h m) ≡ None → item m h ≡ None
   unfolding model_place
   model-none e = by (item m h) refl
     where
-      by : (o : Option FullModel) → item m h ≡ o → item m h ≡ none
-      by none q = q
-      by (some x) q = let clash : At (length (hall_bytes (take m h))) ≡ Absent = rw q at e in let z : ◌≡◌ {A = ℕ} 0 1 = cc in absurd (omega arith)
+      by : (o : Option FullModel) → item m h ≡ o → item m h ≡ None
+      by None q = q
+      by (Some x) q = let clash : Some (length (hall_bytes (take m h))) ≡ None = rw q at e in let z : ◌≡◌ {A = ℕ} 0 1 = cc in absurd (omega arith)
 
-  pub ModelThere_lem : (place : ℕ) → found_model (model_place h m) ≡ At place → ModelThere h m place
+  pub ModelThere_lem : (place : ℕ) → (model_place h m) ≡ Some place → ModelThere h m place
   unfolding model_place
   ModelThere_lem place e = by (item m h) refl
     where
       by : (o : Option FullModel) → item m h ≡ o → ModelThere h m place
-      by none q = let clash : Absent ≡ At place = rw q at e in let z : ◌≡◌ {A = ℕ} 0 1 = cc in absurd (omega arith)
-      by (some x) q = let same : At (length (hall_bytes (take m h))) ≡ At place = rw q at e in record { it = x; is = q; begins = cc }
+      by None q = let clash : None ≡ Some place = rw q at e in let z : ◌≡◌ {A = ℕ} 0 1 = cc in absurd (omega arith)
+      by (Some x) q = let same : Some (length (hall_bytes (take m h))) ≡ Some place = rw q at e in record { it = x; is = q; begins = cc }
 
 -- ---- the hall's bytes before a model, and from one on
 
@@ -51,11 +50,11 @@ parted h m = ap hall_bytes (sym (take-append-drop m h)) ∙ hall_bytes-append (t
 -- ---- the call
 
 module _ (b : List ℕ) (n : ℕ) (o : Old b n) (m : ℕ) where
-  pub removed-none : (r : Answer) → found_model (model_place (hall_in b n) m) ≡ Absent → r ≡ Refused (record { check = 21; needed = 0 }) → Stepped (remove_model m) b n r b
+  pub removed-none : (r : Result ℕ Refusal) → (model_place (hall_in b n) m) ≡ None → r ≡ Err (record { check = 21; needed = 0 }) → Stepped (remove_model m) b n r b
   unfolding proposed
   removed-none r e f =
-      let none-there : item m (state_in b n) ≡ none = State-item m (hall_in b n) ∙ rw (model-none (hall_in b n) m e) in
-      subst (λ (x : Answer). Stepped (remove_model m) b n x b) (sym f) (stays_barred (remove_model m) b n o 21 (rw none-there))
+      let none-there : item m (state_in b n) ≡ None = State-item m (hall_in b n) ∙ rw (model-none (hall_in b n) m e) in
+      subst (λ (x : Result ℕ Refusal). Stepped (remove_model m) b n x b) (sym f) (stays_barred (remove_model m) b n o 21 (rw none-there))
 
   module _ (place end : ℕ) (w : ModelThere (hall_in b n) m place) (e : end ≡ length (hall_bytes (take (m + 1) (hall_in b n)))) where
     abbrev h : Hall
@@ -78,7 +77,7 @@ module _ (b : List ℕ) (n : ℕ) (o : Old b n) (m : ℕ) where
     proposed-is : proposed (remove_model m) (state_in b n) ≡ read (without m h)
     unfolding proposed
     proposed-is =
-        let there : item m (state_in b n) ≡ some (model_state w.it) = State-item m h ∙ rw w.is in
+        let there : item m (state_in b n) ≡ Some (model_state w.it) = State-item m h ∙ rw w.is in
         rw there (ap read (hall-without m (state_in b n) ∙ ap (without m) o.back))
 
     bytes-are : take place (take n b) ++ drop end (take n b) ≡ hall_bytes (without m h)
@@ -95,6 +94,6 @@ module _ (b : List ℕ) (n : ℕ) (o : Old b n) (m : ℕ) where
         ap length (hall_bytes-append (take m h) (drop (suc m) h)) ∙ length-append (hall_bytes (take m h)) (hall_bytes (drop (suc m) h)) in
         omega (arith, behind-long, model-spans, w.begins)
 
-    pub removed-one : (t : List ℕ) → t ≡ rewritten b n (take place (take n b) ++ drop end (take n b)) → Stepped (remove_model m) b n (Accepted (n - (end - place))) t
+    pub removed-one : (t : List ℕ) → t ≡ rewritten b n (take place (take n b) ++ drop end (take n b)) → Stepped (remove_model m) b n (Ok (n - (end - place))) t
     removed-one t f =
         becomes-new (remove_model m) b n o (without m h) proposed-is (sound-without h m o.sound) (n - (end - place)) t long_is (omega (arith, o.within)) (f ∙ ap (rewritten b n) bytes-are)

@@ -1,9 +1,8 @@
 -- Edits of a hall that keep it sound: a model taken out, or another in its place that is no bigger. The list laws that they need come first.
+use Rattle.std.specs.Prelude.{Some, option_map}
 use mathlib.Core.Path.{◌≡◌, refl, ap, ◌∙◌, subst}
 use mathlib.Core.Bool.{Bool, true}
 use mathlib.Core.List.{List, [], ◌∷◌, ◌++◌, map, map-append}
-use mathlib.Core.Option
-use mathlib.Core.Option.{none, some}
 use Prim.Native.Nat.{ℕ, zero, suc, ◌+◌, ◌*◌, ◌≤◌}
 use native.Mathlib.Omega.{arith}
 use borrow.Author.Tests.{le-leb, leb-true, eq-eqb}
@@ -19,7 +18,7 @@ use Rattle.halls.specs.ImageSize.{model_size, image_size}
 use Rattle.halls.specs.List.{write_model}
 use Rattle.halls.specs.Places.{item}
 use Rattle.halls.specs.State.{Model, State, full_model, hall_of, model_state, state_of}
-use Rattle.halls.specs.declared.check.check.Verdict.TheVariants.{Sound}
+use Rattle.halls.specs.Verdict.{Sound}
 use Rattle.halls.proofs.read.EachLaws.{each_append}
 use Rattle.halls.proofs.EveryLaws.{each-every}
 use Rattle.halls.proofs.SoundLaws.{SoundHall, SoundGeometry, SoundModel, verdict-sound, sound-verdict, sound_models}
@@ -27,14 +26,14 @@ use Rattle.halls.proofs.SoundLaws.{SoundHall, SoundGeometry, SoundModel, verdict
 -- ---- an item of a list
 
 module _ {A : Type 0} where
-  pub split-item : (i : ℕ) (xs : List A) (x : A) → item i xs ≡ some x → xs ≡ take i xs ++ (x ∷ drop (suc i) xs)
+  pub split-item : (i : ℕ) (xs : List A) (x : A) → item i xs ≡ Some x → xs ≡ take i xs ++ (x ∷ drop (suc i) xs)
   split-item zero [] x e = let z : ◌≡◌ {A = ℕ} 0 1 = cc in absurd (omega arith)
   split-item (suc i) [] x e = let z : ◌≡◌ {A = ℕ} 0 1 = cc in absurd (omega arith)
   split-item zero (y ∷ ys) x e = let same : y ≡ x = cc in ap (λ (a : A). a ∷ ys) same
   split-item (suc i) (y ∷ ys) x e = ap (λ (l : List A). y ∷ l) (split-item i ys x e)
 
   -- it stands within the list
-  pub item-within : (i : ℕ) (xs : List A) (x : A) → item i xs ≡ some x → suc i ≤ length xs
+  pub item-within : (i : ℕ) (xs : List A) (x : A) → item i xs ≡ Some x → suc i ≤ length xs
   item-within zero [] x e = let z : ◌≡◌ {A = ℕ} 0 1 = cc in absurd (omega arith)
   item-within (suc i) [] x e = let z : ◌≡◌ {A = ℕ} 0 1 = cc in absurd (omega arith)
   item-within zero (y ∷ ys) x e = omega arith
@@ -52,7 +51,7 @@ module _ {A B : Type 0} (f : A → B) where
   map-drop (suc i) [] = refl
   map-drop (suc i) (x ∷ xs) = map-drop i xs
 
-  pub item-map : (i : ℕ) (xs : List A) → item i (map f xs) ≡ Option.map f (item i xs)
+  pub item-map : (i : ℕ) (xs : List A) → item i (map f xs) ≡ option_map f (item i xs)
   item-map zero [] = refl
   item-map zero (x ∷ xs) = refl
   item-map (suc i) [] = refl
@@ -89,7 +88,7 @@ module _ {A : Type 0} (P : A → Type 0) where
   each-drop (suc i) [] w = tt
   each-drop (suc i) (x ∷ xs) w = each-drop i xs w.1
 
-  pub each_item : (i : ℕ) (xs : List A) (x : A) → item i xs ≡ some x → Each P xs → P x
+  pub each_item : (i : ℕ) (xs : List A) (x : A) → item i xs ≡ Some x → Each P xs → P x
   unfolding Each
   each_item zero [] x e w = let z : ◌≡◌ {A = ℕ} 0 1 = cc in absurd (omega arith)
   each_item (suc i) [] x e w = let z : ◌≡◌ {A = ℕ} 0 1 = cc in absurd (omega arith)
@@ -116,7 +115,7 @@ module _ {A : Type 0} (f : A → ℕ) where
   sum-without (suc i) [] = omega arith
   sum-without (suc i) (x ∷ xs) = omega (arith, sum-without i xs)
 
-  pub sum-item : (i : ℕ) (xs : List A) (x : A) → item i xs ≡ some x → sum_of f xs ≡ sum_of f (without i xs) + f x
+  pub sum-item : (i : ℕ) (xs : List A) (x : A) → item i xs ≡ Some x → sum_of f xs ≡ sum_of f (without i xs) + f x
   unfolding sum_of
   sum-item i xs x e =
       let all : sum_of f xs ≡ sum_of f (take i xs ++ (x ∷ drop (suc i) xs)) = ap (sum_of f) (split-item i xs x e) in
@@ -129,11 +128,11 @@ module _ {A : Type 0} (f : A → ℕ) where
 
 -- ---- a hall and its state
 
-pub hall-item : (i : ℕ) (s : State) → item i (hall_of s) ≡ Option.map full_model (item i s)
+pub hall-item : (i : ℕ) (s : State) → item i (hall_of s) ≡ option_map full_model (item i s)
 unfolding hall_of
 hall-item i s = item-map full_model i s
 
-pub State-item : (i : ℕ) (h : Hall) → item i (state_of h) ≡ Option.map model_state (item i h)
+pub State-item : (i : ℕ) (h : Hall) → item i (state_of h) ≡ option_map model_state (item i h)
 unfolding state_of
 State-item i h = item-map model_state i h
 
@@ -212,7 +211,7 @@ sound-without h i e =
 
 -- ---- a model with another in its place
 
-pub sound-replaced : (h : Hall) (i : ℕ) (x x' : FullModel) → item i h ≡ some x → verdict h ≡ Sound → SoundModel x' → length x'.geometries ≤ length x.geometries
+pub sound-replaced : (h : Hall) (i : ℕ) (x x' : FullModel) → item i h ≡ Some x → verdict h ≡ Sound → SoundModel x' → length x'.geometries ≤ length x.geometries
     → model_size x' ≤ model_size x → verdict (replaced i x' h) ≡ Sound
 unfolding geometry_count
 sound-replaced h i x x' at e w few small =

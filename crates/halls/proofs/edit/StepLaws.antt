@@ -1,7 +1,7 @@
 -- What a call comes to, case by case: refused on the old hall, before the result, on the result or for its length, or done.
+use Rattle.std.specs.Prelude.{Option, None, Some}
 use mathlib.Core.Path.{◌≡◌, refl, sym, ap, ◌∙◌, subst}
 use mathlib.Core.List.{List}
-use mathlib.Core.Option.{Option, none, some}
 use Prim.Native.Nat.{ℕ, ◌≤◌, ◌<◌}
 use native.Mathlib.Omega.{arith}
 use borrow.Author.Tests.{le-leb, lt-leb, leb-true}
@@ -17,13 +17,10 @@ use Rattle.halls.specs.Reading.{refused, read}
 use Rattle.halls.specs.Records.{records}
 use Rattle.halls.specs.State.{hall_of, state_of, state_bytes}
 use Rattle.halls.specs.Step.{Step, stays, becomes, settled, state_in, step_in, rewritten, step_answer, step_bytes, Stepped}
-use Rattle.halls.specs.Inner.Order.{passed, check_of}
-use Rattle.halls.specs.Inner.Walk.{ExaminedFirst}
-use Rattle.halls.specs.declared.answer.Answer.{Answer}
-use Rattle.halls.specs.declared.answer.Answer.TheVariants.{Accepted, Refused}
-use Rattle.halls.specs.declared.check.check.Verdict.TheVariants.{Sound, Fails}
+use Rattle.std.specs.Prelude.{Result, Ok, Err}
+use Rattle.halls.specs.declared.answer.Refusal.{Refusal}
+use Rattle.halls.specs.Verdict.{Sound, Fails}
 use Rattle.halls.proofs.format.ParsingLaws.{hall-parsed}
-use Rattle.halls.specs.declared.check.pass.Summary.{Summary}
 use Rattle.halls.proofs.SoundLaws.{required}
 use Rattle.halls.proofs.StateLaws.{hall_of-state}
 
@@ -44,8 +41,8 @@ pub record Old (b : List ℕ) (n : ℕ) : Type 0 where
 
 -- by what was parsed
 parsed_old : (b : List ℕ) (n : ℕ) → ((i : ℕ) → get_or b i 0 < 256) → n ≤ length b → hall_verdict b n ≡ Sound → (o : Option Hall) → parse (take n b) ≡ o → judged o ≡ Sound → Old b n
-parsed_old b n below within e none p v = let z : ◌≡◌ {A = ℕ} 0 1 = cc in absurd (omega arith)
-parsed_old b n below within e (some h) p v =
+parsed_old b n below within e None p v = let z : ◌≡◌ {A = ℕ} 0 1 = cc in absurd (omega arith)
+parsed_old b n below within e (Some h) p v =
     let r = hall-parsed (take n b) (take_below n b below) h p in
     let sound : verdict (hall_in b n) ≡ Sound = subst (λ (x : Hall). verdict x ≡ Sound) r.is v in
     let bytes-are : hall_bytes (hall_in b n) ≡ take n b = subst (λ (x : Hall). hall_bytes x ≡ take n b) r.is r.same_bytes in
@@ -66,21 +63,18 @@ old b n below e =
     let r = required 11 (leb n (length b)) (judged (parse (take n b))) e in
     parsed_old b n below (leb-true n (length b) r.0) e (parse (take n b)) refl r.1
 
--- ---- what the walk found
-
-pub lowest_fails : (b : List ℕ) (n : ℕ) (r : Summary) → ExaminedFirst b n r → r.lowest < passed → hall_verdict b n ≡ Fails (check_of r.lowest)
-lowest_fails b n r x h = sym x.verdict ∙ rw (lt-leb passed r.lowest h)
-
-pub lowest_sound : (b : List ℕ) (n : ℕ) (r : Summary) → ExaminedFirst b n r → passed ≤ r.lowest → hall_verdict b n ≡ Sound
-lowest_sound b n r x h = sym x.verdict ∙ rw (le-leb passed r.lowest h)
-
 -- ---- one call
 
 module _ (c : Call) (b : List ℕ) (n : ℕ) where
   -- the checks of a hall on the old one
-  pub stays_old : (check : ℕ) → hall_verdict b n ≡ Fails check → Stepped c b n (Refused (record { check = check; needed = 0 })) b
+  pub stays_old : (check : ℕ) → hall_verdict b n ≡ Fails check → Stepped c b n (Err (record { check = check; needed = 0 })) b
   unfolding step_in
   stays_old check e = record { answer = rw e; bytes = rw e }
+
+  pub stays_refused : {e : Refusal} → (hall_verdict b n ≡ Fails e.check) × (e.needed ≡ 0) → Stepped c b n (Err e) b
+  stays_refused {e} h =
+      let s = stays_old e.check h.0 in
+      record { answer = ap {B = Result ℕ Refusal} (λ (k : ℕ). Err (record { check = e.check; needed = k })) h.1 ∙ s.answer; bytes = s.bytes }
 
   module _ (o : Old b n) where
     step_is : step_in c b n ≡ settled (length b) (proposed c (state_in b n))
@@ -91,17 +85,17 @@ module _ (c : Call) (b : List ℕ) (n : ℕ) where
     by-step s e = record { answer = ap (λ (x : Step). step_answer x) (sym e); bytes = ap (λ (x : Step). step_bytes b n x) (sym e) }
 
     -- checks 1 to 6 and 21 to 23
-    pub stays_barred : (check : ℕ) → proposed c (state_in b n) ≡ refused check → Stepped c b n (Refused (record { check = check; needed = 0 })) b
+    pub stays_barred : (check : ℕ) → proposed c (state_in b n) ≡ refused check → Stepped c b n (Err (record { check = check; needed = 0 })) b
     stays_barred check e = by-step (stays check 0) (step_is ∙ rw e)
 
     module _ (h : Hall) (e : proposed c (state_in b n) ≡ read h) where
       -- and on the result
-      pub stays-judged : (check : ℕ) → verdict h ≡ Fails check → Stepped c b n (Refused (record { check = check; needed = 0 })) b
+      pub stays-judged : (check : ℕ) → verdict h ≡ Fails check → Stepped c b n (Err (record { check = check; needed = 0 })) b
       stays-judged check v = by-step (stays check 0) (step_is ∙ rw (e, v))
 
       module _ (v : verdict h ≡ Sound) where
         -- check 24
-        pub stays_long : (needed : ℕ) → needed ≡ length (hall_bytes h) → length b < needed → Stepped c b n (Refused (record { check = 24; needed = needed })) b
+        pub stays_long : (needed : ℕ) → needed ≡ length (hall_bytes h) → length b < needed → Stepped c b n (Err (record { check = 24; needed = needed })) b
         stays_long needed l short =
             by-step (stays 24 needed) (step_is ∙ rw (e, v, ← l, lt-leb needed (length b) short))
 
@@ -109,15 +103,15 @@ module _ (c : Call) (b : List ℕ) (n : ℕ) where
         unfolding state_bytes
         new-bytes = ap hall_bytes (hall_of-state h v)
 
-        pub becomes-new : (m : ℕ) (t : List ℕ) → m ≡ length (hall_bytes h) → m ≤ length b → t ≡ rewritten b n (hall_bytes h) → Stepped c b n (Accepted m) t
+        pub becomes-new : (m : ℕ) (t : List ℕ) → m ≡ length (hall_bytes h) → m ≤ length b → t ≡ rewritten b n (hall_bytes h) → Stepped c b n (Ok m) t
         becomes-new m t l fit w =
             let d : step_in c b n ≡ becomes (state_of h) = step_is ∙ rw (e, v, ← l, le-leb m (length b) fit) in
             let s = by-step (becomes (state_of h)) d in
             record {
-              answer = ap {B = Answer} Accepted (l ∙ ap length (sym new-bytes)) ∙ s.answer;
+              answer = ap {B = (Result ℕ Refusal)} Ok (l ∙ ap length (sym new-bytes)) ∙ s.answer;
               bytes = w ∙ ap (rewritten b n) (sym new-bytes) ∙ s.bytes;
             }
 
 -- the same of an answer that is known by an equation
-pub answered : {c : Call} {b : List ℕ} {n : ℕ} {r r' : Answer} {t : List ℕ} → r ≡ r' → Stepped c b n r' t → Stepped c b n r t
+pub answered : {c : Call} {b : List ℕ} {n : ℕ} {r r' : Result ℕ Refusal} {t : List ℕ} → r ≡ r' → Stepped c b n r' t → Stepped c b n r t
 answered e s = record { answer = e ∙ s.answer; bytes = s.bytes }

@@ -1,9 +1,8 @@
 -- What a reading comes to is what the verdict asks of the hall that `take_in` proposes: check 11 where a part is lacking, else the hall's verdict and length.
+use Rattle.std.specs.Prelude.{Option, None, Some, option_map}
 use mathlib.Core.Path.{◌≡◌, refl, sym, ◌∙◌}
 use mathlib.Core.Bool.{true, ◌&&◌}
 use mathlib.Core.List.{List, [], ◌∷◌, map}
-use mathlib.Core.Option
-use mathlib.Core.Option.{Option, none, some}
 use Prim.Native.Nat.{ℕ, ◌+◌, ◌*◌, ◌≤◌, min}
 use native.Mathlib.Omega.{arith}
 use borrow.Author.Tests.{eq-eqb}
@@ -39,7 +38,7 @@ use Rattle.halls.proofs.read.ViewLaws.{Record-length, geometry_record-length, de
 -- ---- vertex bytes are exact where they were read
 
 abbrev ExactIn : Option Vertices → Type 0
-ExactIn o = (v : Vertices) → o ≡ some v → length v.content ≡ v.count * v.stride
+ExactIn o = (v : Vertices) → o ≡ Some v → length v.content ≡ v.count * v.stride
 
 abbrev ExactGeometry : Geometry → Type 0
 ExactGeometry g = ExactIn g.vertices
@@ -47,10 +46,10 @@ ExactGeometry g = ExactIn g.vertices
 abbrev ExactModel : Model → Type 0
 ExactModel m = Each ExactGeometry m.geometries
 
-buffer-exact : (s : Sections) (o : Option VertexBuffer) → ((b : VertexBuffer) → o ≡ some b → FoundData s b) → ExactIn (Option.map (vertices_of s) o)
+buffer-exact : (s : Sections) (o : Option VertexBuffer) → ((b : VertexBuffer) → o ≡ Some b → FoundData s b) → ExactIn (option_map (vertices_of s) o)
 unfolding vertices_of
-buffer-exact s none f v e = let z : ◌≡◌ {A = ℕ} 0 1 = cc in absurd (omega arith)
-buffer-exact s (some b) f v e =
+buffer-exact s None f v e = let z : ◌≡◌ {A = ℕ} 0 1 = cc in absurd (omega arith)
+buffer-exact s (Some b) f v e =
     let h = (f b refl).bytes in
     let long : length (vertices_of s b).content ≡ b.vertex_count * b.vertex_stride = rw h.is h.long in
     cc
@@ -74,10 +73,10 @@ record GeometryTakenAs (g : FullGeometry) (t : Taken) : Type 0 where
   exact : vertex_bytes_exact g ≡ true
 
 abbrev GeometryJudged : Option FullGeometry → Taken → Type 0
-GeometryJudged none t = t.lowest ≡ 11
-GeometryJudged (some g) t = GeometryTakenAs g t
+GeometryJudged None t = t.lowest ≡ 11
+GeometryJudged (Some g) t = GeometryTakenAs g t
 
-taken_as : (g : Geometry) (v : Vertices) (i : Indices) → g.vertices ≡ some v → g.indices ≡ some i → ExactGeometry g → GeometryJudged (as_halls g) (geometry_taken g)
+taken_as : (g : Geometry) (v : Vertices) (i : Indices) → g.vertices ≡ Some v → g.indices ≡ Some i → ExactGeometry g → GeometryJudged (as_halls g) (geometry_taken g)
 unfolding geometry_taken geometry_size write_geometry vertex_bytes_exact
 taken_as g v i e f x = rw (e, f) (record {
   lowest = refl;
@@ -88,7 +87,7 @@ taken_as g v i e f x = rw (e, f) (record {
   exact = eq-eqb (length v.content) (v.count * v.stride) (x v e);
 })
 
-lacking : (g : Geometry) → as_halls g ≡ none → GeometryJudged (as_halls g) (geometry_taken g)
+lacking : (g : Geometry) → as_halls g ≡ None → GeometryJudged (as_halls g) (geometry_taken g)
 unfolding geometry_taken
 lacking g n = rw n
 
@@ -96,9 +95,9 @@ GeometryJudged_lem : (g : Geometry) → ExactGeometry g → GeometryJudged (as_h
 GeometryJudged_lem g x = by_parts g.vertices g.indices refl refl
   where
     by_parts : (o : Option Vertices) (p : Option Indices) → g.vertices ≡ o → g.indices ≡ p → GeometryJudged (as_halls g) (geometry_taken g)
-    by_parts none p e f = lacking g (rw e)
-    by_parts (some v) none e f = lacking g (rw (e, f))
-    by_parts (some v) (some i) e f = taken_as g v i e f x
+    by_parts None p e f = lacking g (rw e)
+    by_parts (Some v) None e f = lacking g (rw (e, f))
+    by_parts (Some v) (Some i) e f = taken_as g v i e f x
 
 -- ---- a model's geometries
 
@@ -112,19 +111,19 @@ record GeometriesTakenAs (gs : List FullGeometry) (t : Taken) : Type 0 where
   exact : every vertex_bytes_exact gs ≡ true
 
 abbrev GeometriesJudged : Option (List FullGeometry) → Taken → Type 0
-GeometriesJudged none t = t.lowest ≡ 11
-GeometriesJudged (some gs) t = GeometriesTakenAs gs t
+GeometriesJudged None t = t.lowest ≡ 11
+GeometriesJudged (Some gs) t = GeometriesTakenAs gs t
 
-geometries-none : GeometriesJudged (some []) nothing_taken
+geometries-none : GeometriesJudged (Some []) nothing_taken
 unfolding lowest_of_all sum_of each every
 geometries-none = record { lowest = refl; above = omega arith; models = refl; geometries = refl; image = refl; long = refl; exact = refl }
 
 geometries-more : (o : Option FullGeometry) (p : Option (List FullGeometry)) (t u : Taken) → GeometryJudged o t → GeometriesJudged p u → GeometriesJudged (both (λ y ys. y ∷ ys) o p) (together t u)
 unfolding lowest_of_all sum_of each every
-geometries-more none none t u a b = omega arith
-geometries-more none (some gs) t u a b = omega (arith, b.above)
-geometries-more (some g) none t u a b = omega (arith, of_bounds g, a.lowest)
-geometries-more (some g) (some gs) t u a b = record {
+geometries-more None None t u a b = omega arith
+geometries-more None (Some gs) t u a b = omega (arith, b.above)
+geometries-more (Some g) None t u a b = omega (arith, of_bounds g, a.lowest)
+geometries-more (Some g) (Some gs) t u a b = record {
   lowest = rw (a.lowest, b.lowest);
   above = omega (arith, of_bounds g, a.lowest, b.above);
   models = omega (arith, a.models, b.models);
@@ -152,10 +151,10 @@ record ModelsTakenAs (h : Hall) (t : Taken) : Type 0 where
   exact : every_geometry vertex_bytes_exact h ≡ true
 
 abbrev ModelsJudged : Option Hall → Taken → Type 0
-ModelsJudged none t = t.lowest ≡ 11
-ModelsJudged (some h) t = ModelsTakenAs h t
+ModelsJudged None t = t.lowest ≡ 11
+ModelsJudged (Some h) t = ModelsTakenAs h t
 
-models-none : ModelsJudged (some []) nothing_taken
+models-none : ModelsJudged (Some []) nothing_taken
 unfolding lowest_of_models sum_of each every geometry_count hall_bytes
 models-none = record { lowest = refl; above = omega arith; models = refl; geometries = refl; image = refl; long = refl; exact = refl }
 
@@ -171,12 +170,12 @@ lower_three : (a b : ℕ) → min (min passed a) b ≡ min passed (min a b)
 lower_three a b = omega arith
 
 models_more : (m : Model) (n : ℕ) (p : Option (List FullGeometry)) (h : Option Hall) (t u : Taken) → t.geometries ≡ n → GeometriesJudged p t → ModelsJudged h u
-    → ModelsJudged (both (λ y ys. y ∷ ys) (Option.map (halls_model m) p) h) (together (together (record_taken n) t) u)
+    → ModelsJudged (both (λ y ys. y ∷ ys) (option_map (halls_model m) p) h) (together (together (record_taken n) t) u)
 unfolding lowest_of_models sum_of each every geometry_count hall_bytes mapping_matches model_size
-models_more m n none none t u e a b = omega arith
-models_more m n none (some h) t u e a b = omega (arith, b.above)
-models_more m n (some gs) none t u e a b = omega (arith, a.above)
-models_more m n (some gs) (some h) t u e a b =
+models_more m n None None t u e a b = omega arith
+models_more m n None (Some h) t u e a b = omega (arith, b.above)
+models_more m n (Some gs) None t u e a b = omega (arith, a.above)
+models_more m n (Some gs) (Some h) t u e a b =
     let f : FullModel = halls_model m gs in
     let count : n ≡ length gs = sym e ∙ a.geometries in
     record {
@@ -203,8 +202,8 @@ lowest_taken t = min t.lowest (limits_lowest t.models t.geometries t.units)
 
 -- check 11, or the verdict on the hall, its length and its geometries
 abbrev pub Judged : Option Hall → Taken → Type 0
-Judged none t = lowest_taken t ≡ 11
-Judged (some h) t = (verdict_of (lowest_taken t) ≡ verdict h) × (t.«length» ≡ length (hall_bytes h)) × (t.geometries ≡ geometry_count h)
+Judged None t = lowest_taken t ≡ 11
+Judged (Some h) t = (verdict_of (lowest_taken t) ≡ verdict h) × (t.«length» ≡ length (hall_bytes h)) × (t.geometries ≡ geometry_count h)
 
 limits_above : (models geometries parts : ℕ) → 13 ≤ limits_lowest models geometries parts
 unfolding limits_lowest
@@ -212,8 +211,8 @@ limits_above models geometries parts = (limits_low (leb models 256 && leb geomet
 
 by-hall : (o : Option Hall) (t : Taken) → ModelsJudged o t → Judged o t
 unfolding image_size
-by-hall none t a = omega (arith, a, limits_above t.models t.geometries t.units)
-by-hall (some h) t a =
+by-hall None t a = omega (arith, a, limits_above t.models t.geometries t.units)
+by-hall (Some h) t a =
     let limits = limits_of h t.models t.geometries t.units a.models a.geometries (omega (arith, a.image, a.models)) in
     (rw (a.lowest, limits) (verdict-lowest h a.exact), a.long, a.geometries)
 

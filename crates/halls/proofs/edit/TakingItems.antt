@@ -65,6 +65,15 @@ module _ {A : Type 0} {f : A → Taken} {left : ℕ → List A} {i : ℕ} {total
   pub taking-end : left i ≡ [] → total ≡ all_taken f (left 0)
   taking-end e = w.total-is ∙ ap (all_taken f) (sym (w.whole ∙ rw e (append-nil w.done)))
 
+  -- the next pointer has none
+  pub taking_skip : left i ≡ left (suc i) → TakingItems f left (i + 1) total
+  taking_skip e = record {
+    done = w.done;
+    total-is = w.total-is;
+    whole = w.whole ∙ ap (λ (xs : List A). w.done ++ xs) e ∙ ap (λ k. w.done ++ left k) (sym (add-one i));
+    fits = w.fits;
+  }
+
   -- the next pointer has these items
   module _ (one : List A) (step : left i ≡ one ++ left (suc i)) where
     all : left 0 ≡ (w.done ++ one) ++ left (suc i)

@@ -1,8 +1,8 @@
 -- One geometry and one model as they are read: what they come to.
+use Rattle.std.specs.Prelude.{Option, None, Some}
 use mathlib.Core.Path.{◌≡◌, refl, sym, ap, ◌∙◌}
 use mathlib.Core.Bool.{Bool, true, false, cond}
 use mathlib.Core.List.{List, [], ◌∷◌}
-use mathlib.Core.Option.{Option, none, some}
 use Prim.Native.Nat.{ℕ, ◌≤◌}
 use native.Mathlib.Omega.{arith}
 use lib.ListN.{length}
@@ -15,10 +15,10 @@ use Rattle.halls.specs.Inner.Order.{passed}
 use Rattle.halls.specs.List.{Geometry, Model}
 use Rattle.halls.specs.Reading.{geometry_of}
 use Rattle.halls.specs.Inner.Taking.{geometry_shown, as_halls, lowest_in, geometry_taken, together, all_taken, record_taken, model_taken, Fitting}
+use Rattle.halls.specs.Inner.Measure.{whole_numbers}
 use Rattle.halls.specs.Inner.View.{geometry_view, geometry_in, ListsOf, geometries_at, model_of, model_in}
 use Rattle.halls.specs.declared.edit.judge_read.Taken.{Taken}
 use Rattle.halls.specs.declared.read.view.GeometryView.{GeometryView}
-use Rattle.halls.proofs.read.ListBytes.{whole_numbers}
 use Rattle.halls.proofs.read.ModelLaws.{mapping-numbers, pointer-numbers}
 use Rattle.halls.proofs.edit.ShownLaws.{shown-is}
 use Rattle.halls.proofs.edit.TakingItems.{nothing-behind, fits-second}
@@ -39,15 +39,15 @@ unfolding lowest_of
 of_bounds g = lowest_bounds (strides_agree g) (components_inside g) (vertex_counts_agree g) (index_counts_agree g) (indices_in_range g) (triangles_distinct g)
 
 in_low : (o : Option FullGeometry) → lowest_in o ≤ passed
-in_low none = omega arith
-in_low (some g) = (of_bounds g).1
+in_low None = omega arith
+in_low (Some g) = (of_bounds g).1
 
 one-geometry : (g : Geometry) → all_taken geometry_taken (g ∷ []) ≡ geometry_taken g
 unfolding all_taken geometry_taken
 one-geometry g = nothing-behind (geometry_taken g) (in_low (as_halls g))
 
 -- the geometry of the block behind a pointer
-pub geometry_in_lem : (s : Sections) (shader pointer : ℕ) (raw : List ℕ) → resolved s pointer 0x98 ≡ some raw → (v : GeometryView) → v ≡ geometry_view s shader (geometry_block raw)
+pub geometry_in_lem : (s : Sections) (shader pointer : ℕ) (raw : List ℕ) → resolved s pointer 0x98 ≡ Some raw → (v : GeometryView) → v ≡ geometry_view s shader (geometry_block raw)
     → geometry_taken (geometry_shown s v) ≡ all_taken geometry_taken (geometry_in s shader (resolved s pointer 0x98))
 geometry_in_lem s shader pointer raw e v q =
     ap (λ (x : GeometryView). geometry_taken (geometry_shown s x)) q ∙ ap geometry_taken (shown-is s shader (geometry_block raw)) ∙ sym (one-geometry (geometry_of s shader (geometry_block raw)))
@@ -83,5 +83,5 @@ unfolding all_taken model_taken
 one-model m = nothing-behind (model_taken m) (omega arith)
 
 -- the model of the block behind a pointer
-pub model_in_lem : (s : Sections) (pointer : ℕ) (raw : List ℕ) → resolved s pointer 0x30 ≡ some raw → model_taken (model_of s (model_block raw)) ≡ all_taken model_taken (model_in s (resolved s pointer 0x30))
+pub model_in_lem : (s : Sections) (pointer : ℕ) (raw : List ℕ) → resolved s pointer 0x30 ≡ Some raw → model_taken (model_of s (model_block raw)) ≡ all_taken model_taken (model_in s (resolved s pointer 0x30))
 model_in_lem s pointer raw e = sym (one-model (model_of s (model_block raw))) ∙ ap (λ (o : Option (List ℕ)). all_taken model_taken (model_in s o)) (sym e)

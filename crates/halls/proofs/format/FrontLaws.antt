@@ -11,6 +11,7 @@ use borrow.Author.Tests.{le-leb, eq-eqb, ne_eqb, eqb-true, eqb-false, leb-true}
 use lib.Dec.{T, eqb, leb}
 use lib.ListN.{length, take, drop, length-drop}
 use lib.Seq.{drop-drop}
+use Rattle.std.specs.Prelude.{Option, Some, None}
 use Rattle.sections.specs.Edit.{part, fits}
 use Rattle.sections.specs.Le.{field}
 use Rattle.sections.proofs.AddressLaws.{both_true}
@@ -23,7 +24,7 @@ use Rattle.halls.specs.Parsing.{records_length, whole, follows, may_end, ordered
 use Rattle.halls.specs.Records.{Record, body_length, front_record, records}
 use Rattle.halls.specs.Inner.Walk.{front_of, well_from}
 use Rattle.halls.specs.declared.format.front.Front.{Front}
-use Rattle.halls.specs.declared.format.front.Front.TheVariants.{Model, Geometry, Broken}
+use Rattle.halls.specs.declared.format.front.Front.TheVariants.{Model, Geometry}
 use Rattle.halls.specs.declared.format.front.GeometryShape.{GeometryShape}
 use Rattle.halls.proofs.check.JudgingLaws.{field-part}
 use Rattle.halls.proofs.format.RecordLaws.{field-drop, records-stop, records-step}
@@ -147,35 +148,37 @@ has_geometry_lem s e =
     }
 
 module _ (s : List ℕ) where
-  abbrev by_tests : Bool → Bool → Front
-  by_tests t u = cond t (Model (entries_at s)) (cond u (Geometry (content_at s) (held_at s)) Broken)
+  abbrev shape : ℕ → ℕ → GeometryShape
+  shape content held = record { content = content; held = held }
 
-  pub ModelFront_lem : (entries : ℕ) → Model entries ≡ front_of s → ModelFront s entries
+  abbrev by_tests : Bool → Bool → Option Front
+  by_tests t u = cond t (Some (Model (entries_at s))) (cond u (Some (Geometry (shape (content_at s) (held_at s)))) None)
+
+  pub ModelFront_lem : (entries : ℕ) → Some (Model entries) ≡ front_of s → ModelFront s entries
   unfolding front_of
   ModelFront_lem entries e = on (has_model s) (has_geometry s) refl e
     where
-      on : (t u : Bool) → has_model s ≡ t → Model entries ≡ by_tests t u → ModelFront s entries
+      on : (t u : Bool) → has_model s ≡ t → Some (Model entries) ≡ by_tests t u → ModelFront s entries
       on true u h e = let q : entries_at s ≡ entries = cc in subst (ModelFront s) q (has_model_lem s h)
       on false true h e = let z : ◌≡◌ {A = ℕ} 0 1 = cc in absurd (omega arith)
       on false false h e = let z : ◌≡◌ {A = ℕ} 0 1 = cc in absurd (omega arith)
 
-  pub FourRecords_lem : (content held : ℕ) → Geometry content held ≡ front_of s → FourRecords s content held
+  pub FourRecords_lem : (content held : ℕ) → Some (Geometry (shape content held)) ≡ front_of s → FourRecords s content held
   unfolding front_of
   FourRecords_lem content held e = on (has_model s) (has_geometry s) refl e
     where
-      on : (t u : Bool) → has_geometry s ≡ u → Geometry content held ≡ by_tests t u → FourRecords s content held
+      on : (t u : Bool) → has_geometry s ≡ u → Some (Geometry (shape content held)) ≡ by_tests t u → FourRecords s content held
       on true u h e = let z : ◌≡◌ {A = ℕ} 0 1 = cc in absurd (omega arith)
       on false true h e =
-          let q : content_at s ≡ content = cc in
-          let p : held_at s ≡ held = cc in
-          subst (λ (n : ℕ). FourRecords s n held) q (subst (FourRecords s (content_at s)) p (has_geometry_lem s h))
+          let q : shape (content_at s) (held_at s) ≡ shape content held = cc in
+          subst (λ (g : GeometryShape). FourRecords s g.content g.held) q (has_geometry_lem s h)
       on false false h e = let z : ◌≡◌ {A = ℕ} 0 1 = cc in absurd (omega arith)
 
-  broken-front : Broken ≡ front_of s → (has_model s ≡ false) × (has_geometry s ≡ false)
+  broken-front : None ≡ front_of s → (has_model s ≡ false) × (has_geometry s ≡ false)
   unfolding front_of
   broken-front e = on (has_model s) (has_geometry s) refl refl e
     where
-      on : (t u : Bool) → has_model s ≡ t → has_geometry s ≡ u → Broken ≡ by_tests t u → (has_model s ≡ false) × (has_geometry s ≡ false)
+      on : (t u : Bool) → has_model s ≡ t → has_geometry s ≡ u → None ≡ by_tests t u → (has_model s ≡ false) × (has_geometry s ≡ false)
       on true u h g e = let z : ◌≡◌ {A = ℕ} 0 1 = cc in absurd (omega arith)
       on false true h g e = let z : ◌≡◌ {A = ℕ} 0 1 = cc in absurd (omega arith)
       on false false h g e = (h, g)
@@ -207,7 +210,7 @@ module _ (s : List ℕ) where
         e ∙ rw (a, b, c', q.content-is, q.held-is)
 
   module _ {entries : ℕ} (e : entries ≡ entries_at s) where
-    pub front_model_lem : has_record s 0 1 (6 + 2 * entries) ≡ true → Model entries ≡ front_of s
+    pub front_model_lem : has_record s 0 1 (6 + 2 * entries) ≡ true → Some (Model entries) ≡ front_of s
     unfolding front_of has_model
     front_model_lem h = let m : has_record s 0 1 (6 + 2 * entries_at s) ≡ true = rw (← e) h in rw (m, e)
 
@@ -216,11 +219,11 @@ module _ (s : List ℕ) where
       unfolding has_model
       not-model = rw (← e) other
 
-      pub front_geometry_lem : {r : GeometryShape} → Shaped s r → has_geometry s ≡ true → Geometry r.content r.held ≡ front_of s
+      pub front_geometry_lem : {r : GeometryShape} → Shaped s r → has_geometry s ≡ true → Some (Geometry r) ≡ front_of s
       unfolding front_of
       front_geometry_lem q h = rw (not-model, h, q.content-is, q.held-is)
 
-      pub front-broken : has_geometry s ≡ false → Broken ≡ front_of s
+      pub front-broken : has_geometry s ≡ false → None ≡ front_of s
       unfolding front_of
       front-broken h = rw (not-model, h)
 
@@ -418,7 +421,7 @@ module _ (s : List ℕ) where
       (subst (λ (i : ℕ). exact (of_kind 5 (part s i d.n)) ≡ true) body d.is-exact)
 
   -- neither a model nor a geometry at the front: these are not a hall's records
-  pub well_broken : (before : ℕ) → ((k : ℕ) → follows before k ≡ true → (k ≡ 1) ⊎ (k ≡ 2)) → 0 < length s → Broken ≡ front_of s → well_from before s ≡ false
+  pub well_broken : (before : ℕ) → ((k : ℕ) → follows before k ≡ true → (k ≡ 1) ⊎ (k ≡ 2)) → 0 < length s → None ≡ front_of s → well_from before s ≡ false
   well_broken before f h e = on (well_from before s) refl
     where
       on : (t : Bool) → well_from before s ≡ t → well_from before s ≡ false

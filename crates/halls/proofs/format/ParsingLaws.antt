@@ -1,8 +1,8 @@
 -- Parsing turned round: the records and bytes of the hall that was read are those that it was read from, and a hall that was written is read.
+use Rattle.std.specs.Prelude.{None, Some}
 use mathlib.Core.Path.{◌≡◌, refl, sym, ap, ◌∙◌, subst}
 use mathlib.Core.Bool.{Bool, true, false, cond, ◌&&◌, ◌||◌}
 use mathlib.Core.List.{List, [], ◌∷◌, ◌++◌}
-use mathlib.Core.Option.{none, some}
 use Prim.Native.Nat.{ℕ, ◌*◌}
 use native.Mathlib.Omega.{arith}
 use borrow.Author.Tests.{eq-eqb, eqb-true}
@@ -199,17 +199,17 @@ module _ (s : List ℕ) (f : AllBytes s) where
   pub records-parsed : structured s ≡ true → hall_records (models_in (records s)) ≡ records s
   records-parsed e = (structured-hall e).same-records
 
-  by_structure : (t : Bool) (h : Hall) → structured s ≡ t → cond t (some (models_in (records s))) none ≡ some h → ReadHall s h
+  by_structure : (t : Bool) (h : Hall) → structured s ≡ t → cond t (Some (models_in (records s))) None ≡ Some h → ReadHall s h
   by_structure true h e p =
       let i : models_in (records s) ≡ h = cc in
       subst (ReadHall s) i (structured-hall e)
   by_structure false h e p = let z : ◌≡◌ {A = ℕ} 0 1 = cc in absurd (omega arith)
 
-  pub hall-parsed : (h : Hall) → parse s ≡ some h → ReadHall s h
+  pub hall-parsed : (h : Hall) → parse s ≡ Some h → ReadHall s h
   unfolding parse
   hall-parsed h e = by_structure (structured s) h refl e
 
-  pub bytes-parsed : (h : Hall) → parse s ≡ some h → hall_bytes h ≡ s
+  pub bytes-parsed : (h : Hall) → parse s ≡ Some h → hall_bytes h ≡ s
   bytes-parsed h e = (hall-parsed h e).same_bytes
 
 -- ---- a hall that was written
@@ -305,6 +305,6 @@ unfolding structured whole
 structured-written h w e =
     rw (hall_records_lem h w, eq-eqb (records_length (hall_records h)) (length (hall_bytes h)) (hall-length h), hall-ordered h, hall_records-exact h w e)
 
-pub parse-written : (h : Hall) → HallInWidth h → every_geometry vertex_bytes_exact h ≡ true → parse (hall_bytes h) ≡ some h
+pub parse-written : (h : Hall) → HallInWidth h → every_geometry vertex_bytes_exact h ≡ true → parse (hall_bytes h) ≡ Some h
 unfolding parse
-parse-written h w e = rw (structured-written h w e) (ap some (ap models_in (hall_records_lem h w) ∙ hall-read h w))
+parse-written h w e = rw (structured-written h w e) (ap Some (ap models_in (hall_records_lem h w) ∙ hall-read h w))

@@ -1,9 +1,11 @@
 -- Triangles counted record by record: the loop over a list's bytes, and the bytes that models are written in.
+use Rattle.std.specs.Prelude.{Option, None, Some}
 use mathlib.Core.Path.{◌≡◌, refl, sym, ap, ◌∙◌}
 use mathlib.Core.Bool.{Bool, true, false, cond}
 use mathlib.Core.List.{List, [], ◌∷◌, ◌++◌, append_assoc}
-use mathlib.Core.Option.{Option, none, some}
 use Prim.Native.Nat.{ℕ, zero, suc, ◌+◌, ◌*◌, ◌-◌, ◌/◌, ◌^◌, ◌≤◌, ◌<◌, min}
+use native.Mathlib.Nat.{lt_of_not-le}
+use native.Mathlib.Decide.{dec_le}
 use native.Mathlib.Omega.{arith}
 use borrow.Author.Tests.{ne_eqb}
 use lib.Dec.{eqb}
@@ -18,6 +20,8 @@ use Rattle.vertices.specs.declared.declaration.VertexDeclaration.{VertexDeclarat
 use Rattle.vertices.proofs.RunLaws.{length_run}
 use Rattle.halls.specs.Every.{Each}
 use Rattle.halls.specs.List.{Vertices, Indices, Geometry, Model, each, record_bytes, optional, model_record, geometry_record, declaration_record, vertices_record, indices_record, write_geometry, write_geometries, write_model, write}
+use Rattle.halls.specs.Inner.Spans.{Spans}
+use Rattle.halls.specs.declared.format.walk.RecordSpan.{RecordSpan}
 use Rattle.halls.specs.Records.{Record, body_length, front_record, records}
 use Rattle.halls.specs.Triangles.{held_by, triangles_of, triangles_of_all, triangles, stored_count, held_count, added, awaits, triangles_from, triangles_in, Short, FittingGeometry, Fitting}
 use Rattle.halls.proofs.format.RecordLaws.{field-drop, length_at, field-behind, records-stop, records-step, records-written}
@@ -86,32 +90,35 @@ module _ {s : List ℕ} {at : ℕ} {awaited : Bool} {total : ℕ} (w : Counting 
       let whole : triangles_in (records s) ≡ w.sum = omega (arith, w.whole) in
       rw whole w.total-is
 
-  -- too few bytes for the next record's head, or for its body
-  pub Counting-end : length s - at < 6 → total ≡ min (triangles_in (records s)) greatest
-  Counting-end h = Counted-all (rw length-drop (omega arith))
+  -- no whole record is left
+  pub Counting-end : length s < at + 6 + field 4 s at → total ≡ min (triangles_in (records s)) greatest
+  Counting-end l =
+      elim (dec_le (at + 6) (length s)) [
+        | yes y ↦ let b = length_at s at y refl in Counted-all (rw length-drop (omega arith))
+        | no y ↦ let few = lt_of_not-le y in Counted-all (rw length-drop (omega (arith, few)))
+      ]
 
+  -- its body is cut
   pub Counting-broken : {n : ℕ} → at + 6 ≤ length s → n ≡ field 4 s at → length s < at + 6 + n → total ≡ min (triangles_in (records s)) greatest
-  Counting-broken h e l =
-      let b = length_at s at h e in
-      Counted-all (rw length-drop (omega arith))
+  Counting-broken h e l = Counting-end (omega (arith, e))
 
   -- one record more
-  pub Counting-turn : {n kind more next : ℕ} {behind : Bool} → n ≡ field 4 s at → at + 6 + n ≤ length s → kind ≡ field 2 s (at + 4)
-      → more ≡ added awaited (record { kind = kind; body = take (at + 6 + n - (at + 6)) (drop (at + 6) s) })
-      → behind ≡ awaits awaited (record { kind = kind; body = take (at + 6 + n - (at + 6)) (drop (at + 6) s) })
-      → next ≡ min (total + more) greatest → Counting s (at + 6 + n) behind next
+  pub Counting-turn : {found : RecordSpan} {more next : ℕ} {behind : Bool} → Spans s at found
+      → more ≡ added awaited (record { kind = found.kind; body = take (found.end - found.start) (drop found.start s) })
+      → behind ≡ awaits awaited (record { kind = found.kind; body = take (found.end - found.start) (drop found.start s) })
+      → next ≡ min (total + more) greatest → Counting s found.end behind next
   unfolding front_record part triangles_from
-  Counting-turn {n} {kind} {more} {next} {behind} e h k m a t =
-      let b : body_length left ≡ n = length_at s at (omega arith) e in
-      let size : at + 6 + n - (at + 6) ≡ n = omega arith in
-      let kind-is : field 2 left 4 ≡ kind = field-drop 2 s at 4 (omega arith) ∙ sym k in
-      let body_is : take (body_length left) (drop 6 left) ≡ take (at + 6 + n - (at + 6)) (drop (at + 6) s) = rw (b, size, drop-drop 6 at s) in
-      let fit : 6 + body_length left ≤ length left = rw length-drop (omega arith) in
-      let place : at + (6 + body_length left) ≡ at + 6 + n = omega arith in
-      let behind-is : drop (6 + body_length left) left ≡ drop (at + 6 + n) s = rw (drop-drop (6 + body_length left) at s, place) in
-      let step : records left ≡ record { kind = kind; body = take (at + 6 + n - (at + 6)) (drop (at + 6) s) } ∷ records (drop (at + 6 + n) s) = records-step left fit ∙ cc in
-      let all : triangles_from awaited (records left) ≡ more + triangles_from behind (records (drop (at + 6 + n) s)) = rw (step, m, a) in
-      record { low = h; sum = w.sum + more; total-is = omega (arith, t, w.total-is); whole = omega (arith, all, w.whole) }
+  Counting-turn {found} {more} {next} {behind} q m a t =
+      let b : body_length left ≡ field 4 s at = length_at s at (omega (arith, q.inside, q.end-is)) refl in
+      let size : found.end - found.start ≡ field 4 s at = omega (arith, q.end-is, q.start-is) in
+      let kind-is : field 2 left 4 ≡ found.kind = field-drop 2 s at 4 (omega (arith, q.inside, q.end-is)) ∙ sym q.kind-is in
+      let body_is : take (body_length left) (drop 6 left) ≡ take (found.end - found.start) (drop found.start s) = rw (b, size, q.start-is, drop-drop 6 at s) in
+      let fit : 6 + body_length left ≤ length left = rw length-drop (omega (arith, b, q.inside, q.end-is)) in
+      let place : at + (6 + body_length left) ≡ found.end = omega (arith, b, q.end-is) in
+      let behind-is : drop (6 + body_length left) left ≡ drop found.end s = rw (drop-drop (6 + body_length left) at s, place) in
+      let step : records left ≡ record { kind = found.kind; body = take (found.end - found.start) (drop found.start s) } ∷ records (drop found.end s) = records-step left fit ∙ cc in
+      let all : triangles_from awaited (records left) ≡ more + triangles_from behind (records (drop found.end s)) = rw (step, m, a) in
+      record { low = q.inside; sum = w.sum + more; total-is = omega (arith, t, w.total-is); whole = omega (arith, all, w.whole) }
 
 -- ---- what models are written in
 
@@ -131,26 +138,26 @@ module _ (kind : ℕ) (body : List ℕ) (short : Short (record_bytes kind body))
 
 declaration-passed : (o : Option VertexDeclaration) (rest : List ℕ) (b : Bool) → triangles_from b (records (optional declaration_record o ++ rest)) ≡ triangles_from b (records rest)
 unfolding declaration_record
-declaration-passed none rest b = refl
-declaration-passed (some d) rest b = passed 3 (declaration_bytes d) (omega (arith, declaration_record-length d)) (omega arith) rest b (λ e. omega arith) (λ e. omega arith)
+declaration-passed None rest b = refl
+declaration-passed (Some d) rest b = passed 3 (declaration_bytes d) (omega (arith, declaration_record-length d)) (omega arith) rest b (λ e. omega arith) (λ e. omega arith)
 
 Vertices-passed : (o : Option Vertices) → Short (optional vertices_record o) → (rest : List ℕ) (b : Bool)
     → triangles_from b (records (optional vertices_record o ++ rest)) ≡ triangles_from b (records rest)
 unfolding vertices_record
-Vertices-passed none h rest b = refl
-Vertices-passed (some v) h rest b =
+Vertices-passed None h rest b = refl
+Vertices-passed (Some v) h rest b =
     passed 4 (bytes 1 v.layout ++ (bytes 2 v.stride ++ (bytes 4 v.count ++ v.content))) h (omega arith) rest b (λ e. omega arith) (λ e. omega arith)
 
 Indices-counted : (o : Option Indices) → Short (optional indices_record o) → (rest : List ℕ) (n : ℕ) → Counts rest n
     → (b : Bool) → triangles_from b (records (optional indices_record o ++ rest)) ≡ cond b (held_by o) 0 / 3 + n
 unfolding indices_record
-Indices-counted none h rest n f true = f true ∙ omega arith
-Indices-counted none h rest n f false = f false ∙ omega arith
-Indices-counted (some i) h rest n f b =
+Indices-counted None h rest n f true = f true ∙ omega arith
+Indices-counted None h rest n f false = f false ∙ omega arith
+Indices-counted (Some i) h rest n f b =
     let body : List ℕ = bytes 4 i.count ++ run 4 i.items in
     let l : length body ≡ 4 + length i.items * 4 = simp (length-append, length-bytes, length_run) in
     let held : held_count body ≡ length i.items = omega arith in
-    let third : (d : Bool) → cond d (held_count body / 3) 0 ≡ cond d (held_by (some i)) 0 / 3 = λ d. elim d as (λ (v : Bool). cond v (held_count body / 3) 0 ≡ cond v (held_by (some i)) 0 / 3) [ true ↦ rw held | false ↦ omega arith ] in
+    let third : (d : Bool) → cond d (held_count body / 3) 0 ≡ cond d (held_by (Some i)) 0 / 3 = λ d. elim d as (λ (v : Bool). cond v (held_count body / 3) 0 ≡ cond v (held_by (Some i)) 0 / 3) [ true ↦ rw held | false ↦ omega arith ] in
     written 5 body h (omega arith) rest b ∙ rw (added-indices b 5 body refl, awaits-indices b 5 body refl, f false, third b)
 
 -- a count that is stored, or else the indices held

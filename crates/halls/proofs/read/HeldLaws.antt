@@ -1,64 +1,82 @@
 -- The bytes of a view's indices, by their width.
+use Rattle.std.specs.Prelude.{Option, None, Some}
+use Rattle.std.specs.Option.{option_map_or}
 use mathlib.Core.Path.{◌≡◌, refl, sym, ap, ◌∙◌}
-use mathlib.Core.Bool.{Bool, true, false, cond}
 use mathlib.Core.List.{List, [], ◌++◌}
-use mathlib.Core.Logic.{⊎_elim}
-use Prim.Native.Nat.{ℕ, suc, ◌+◌, ◌*◌, ◌^◌, ◌<◌}
+use Prim.Native.Nat.{ℕ, ◌+◌, ◌*◌, ◌^◌, ◌<◌}
 use native.Mathlib.Omega.{arith}
-use borrow.Author.Tests.{ne_eqb}
-use lib.Dec.{eqb}
 use lib.ListN.{length, get_or}
 use lib.Seq.{take_all}
 use Rattle.sections.specs.Le.{bytes}
 use Rattle.vertices.specs.Runs.{numbers, run}
 use Rattle.vertices.proofs.RunLaws.{length_run, numbers-length, run-numbers}
 use Rattle.halls.specs.List.{record_bytes, indices_record}
-use Rattle.halls.specs.Inner.View.{HeldIn, held_count, indices_in}
+use Rattle.halls.specs.Inner.View.{HeldIn, index_bytes, held_count, indices_in}
+use Rattle.halls.specs.declared.read.view.IndexItems.{IndexItems}
 use Rattle.halls.specs.declared.read.view.IndexView.{IndexView}
+use Rattle.halls.specs.declared.read.view.IndexWidth.{IndexWidth}
+use Rattle.halls.specs.declared.read.view.IndexWidth.TheVariants.{Two, Four}
+
+abbrev items_of : ℕ → List ℕ → Option IndexItems → List ℕ
+items_of count b o = option_map_or (λ (i : IndexItems). numbers (index_bytes i.width) count b) o []
+
+items_long : (count : ℕ) (b : List ℕ) (o : Option IndexItems) → length (items_of count b o) ≡ option_map_or (λ (i : IndexItems). count) o 0
+items_long count b None = refl
+items_long count b (Some i) = numbers-length (index_bytes i.width) count b
+
+few_held : (count n : ℕ) (o : Option IndexItems) → n ≡ option_map_or (λ (i : IndexItems). count * index_bytes i.width) o 0 → n < 2 ^ 30 → option_map_or (λ (i : IndexItems). count) o 0 < 2 ^ 29
+few_held count n None e h = omega arith
+few_held count n (Some i) e h = by_width i.width e
+  where
+    by_width : (w : IndexWidth) → n ≡ count * index_bytes w → count < 2 ^ 29
+    by_width Two e = omega arith
+    by_width Four e = omega arith
+
+-- the items are of one of the two widths
+by_widths : (o : Option IndexItems) → ((i : IndexItems) → o ≡ Some i → i.width ≡ Two → ⊥) → ((i : IndexItems) → o ≡ Some i → i.width ≡ Four → ⊥) → o ≡ None
+by_widths None f g = refl
+by_widths (Some i) f g = absurd (either i.width refl)
+  where
+    either : (w : IndexWidth) → i.width ≡ w → ⊥
+    either Two e = f i refl e
+    either Four e = g i refl e
 
 module _ (v : IndexView) (b : List ℕ) where
-  pub no_items : v.width ≡ 0 → (indices_in v b).items ≡ []
+  pub no_items : v.items ≡ None → (indices_in v b).items ≡ []
   unfolding indices_in
-  no_items w = rw w
+  no_items e = rw e
 
-  -- of a width that is not 0
-  module _ (w : ℕ) (e : v.width ≡ suc w) where
-    pub items_by : (indices_in v b).items ≡ numbers (suc w) v.count b
+  -- of neither width: there are none
+  pub no_width : ((i : IndexItems) → v.items ≡ Some i → i.width ≡ Two → ⊥) → ((i : IndexItems) → v.items ≡ Some i → i.width ≡ Four → ⊥) → v.items ≡ None
+  no_width f g = by_widths v.items f g
+
+  -- of a view that has some
+  module _ (i : IndexItems) (e : v.items ≡ Some i) where
+    pub items_by : (indices_in v b).items ≡ numbers (index_bytes i.width) v.count b
     unfolding indices_in
-    items_by = rw (e, ne_eqb (suc w) 0 (λ z. omega arith))
+    items_by = rw e
 
     pub held_by_lem : held_count v ≡ v.count
-    held_by_lem = rw (e, ne_eqb (suc w) 0 (λ z. omega arith))
+    held_by_lem = rw e
 
-    pub long_by : HeldIn v b → length b ≡ v.count * suc w
-    long_by h = h.long ∙ ap (λ k. v.count * k) e
+    pub long_by : HeldIn v b → length b ≡ v.count * index_bytes i.width
+    long_by h = h.long ∙ rw e
+
+    -- indices of four bytes are written as they are
+    pub four_bytes : ((j : ℕ) → get_or b j 0 < 256) → i.width ≡ Four → HeldIn v b → b ≡ run 4 (indices_in v b).items
+    four_bytes low w h =
+        let n : length b ≡ v.count * 4 = long_by h ∙ ap (λ (k : IndexWidth). v.count * index_bytes k) w in
+        sym (ap (run 4) (items_by ∙ ap (λ (k : IndexWidth). numbers (index_bytes k) v.count b) w) ∙ run-numbers 4 v.count b low (omega arith) ∙ take_all (v.count * 4) b (omega arith))
 
   pub items_length_lem : length (indices_in v b).items ≡ held_count v
   unfolding indices_in
-  items_length_lem = by_width (eqb v.width 0)
-    where
-      by_width : (t : Bool) → length (cond t [] (numbers v.width v.count b)) ≡ cond t 0 v.count
-      by_width true = refl
-      by_width false = numbers-length v.width v.count b
+  items_length_lem = items_long v.count b v.items
 
   pub held-length : length (run 4 (indices_in v b).items) ≡ held_count v * 4
   held-length = length_run 4 (indices_in v b).items ∙ ap (λ k. k * 4) items_length_lem
 
-  module _ (h : HeldIn v b) where
-    -- indices of four bytes are written as they are
-    pub four_bytes : ((i : ℕ) → get_or b i 0 < 256) → v.width ≡ 4 → b ≡ run 4 (indices_in v b).items
-    four_bytes low w =
-        let n : length b ≡ v.count * 4 = long_by 3 w h in
-        sym (ap (run 4) (items_by 3 w) ∙ run-numbers 4 v.count b low (omega arith) ∙ take_all (v.count * 4) b (omega arith))
-
-    pub held-few : held_count v < 2 ^ 29
-    held-few =
-        ⊎_elim (λ w. let z : held_count v ≡ 0 = rw w in omega arith)
-        (⊎_elim (λ w. let n = long_by 1 w h in let q = held_by_lem 1 w in omega (arith, h.few)) (λ w. let n = long_by 3 w h in let q = held_by_lem 3 w in omega (arith, h.few)))
-        h.width
-
-    pub no_width : (v.width ≡ 2 → ⊥) → (v.width ≡ 4 → ⊥) → v.width ≡ 0
-    no_width f g = ⊎_elim (λ w. w) (⊎_elim (λ w. absurd (f w)) (λ w. absurd (g w))) h.width
+  pub held-few : HeldIn v b → held_count v < 2 ^ 29
+  held-few h = few_held v.count (length b) v.items h.long h.few
 
   -- the parts that are put, one behind the other
   pub index-parts : ((bytes 4 (4 + 4 * held_count v) ++ bytes 2 5) ++ bytes 4 v.count) ++ run 4 (indices_in v b).items ≡ indices_record (indices_in v b)

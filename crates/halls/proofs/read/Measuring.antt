@@ -1,7 +1,8 @@
 -- The loop over a model's geometry pointers: what was read so far, and what is left to read.
-use mathlib.Core.Path.{◌≡◌, refl, sym, ap, ◌∙◌}
+use Rattle.std.specs.Prelude.{Option, None, Some, option_map}
+use Rattle.std.proofs.lemmas.Option.{same_Some}
+use mathlib.Core.Path.{◌≡◌, refl, ap, ◌∙◌}
 use mathlib.Core.List.{List, [], ◌∷◌, ◌++◌, append-nil}
-use mathlib.Core.Option.{Option, none, some}
 use Prim.Native.Nat.{ℕ, suc, ◌+◌, ◌*◌, ◌^◌, ◌≤◌, ◌<◌}
 use native.Mathlib.Nat.{add-zero}
 use native.Mathlib.Numerals.{add-one}
@@ -13,11 +14,10 @@ use Rattle.sections.specs.Address.{Sections, resolved}
 use Rattle.halls.specs.List.{Geometry, each, write_geometry, write_geometries}
 use Rattle.halls.specs.Blocks.{geometry_block}
 use Rattle.halls.specs.Reading.{Reading, refused, read, and_then, geometry_of, read_geometries}
-use Rattle.halls.specs.Inner.Measure.{length_in, length_at}
+use Rattle.halls.specs.Inner.Measure.{length_at}
 use Rattle.halls.proofs.read.EachLaws.{each_snoc}
 use Rattle.halls.proofs.read.PointerLists.{first-drop, rest-drop}
 use Rattle.halls.proofs.read.ReadingLaws.{prepend, prepend-none, prepend-one}
-use Rattle.halls.proofs.read.ViewLaws.{geometry_record-length}
 
 pub record Measuring (s : Sections) (before : ℕ) (map ps : List ℕ) (i total count : ℕ) : Type 0 where
   pub done : List Geometry
@@ -63,11 +63,11 @@ module _ {s : Sections} {before : ℕ} {map ps : List ℕ} {i total count : ℕ}
       Measuring-full h = m.whole ∙ rw (next, ne_eqb (get_or ps i 0) 0 set, le-ltb (before + count) 16384 h)
 
       module _ (room : before + count < 16384) where
-        pub Measuring-unresolved : resolved s (get_or ps i 0) 0x98 ≡ none → read_geometries s before map ps ≡ refused 6
+        pub Measuring-unresolved : resolved s (get_or ps i 0) 0x98 ≡ None → read_geometries s before map ps ≡ refused 6
         unfolding read_geometries prepend
         Measuring-unresolved e = m.whole ∙ rw (next, ne_eqb (get_or ps i 0) 0 set, lt-ltb (before + count) 16384 room, e)
 
-        pub Measuring-one : (b : List ℕ) (n : ℕ) → resolved s (get_or ps i 0) 0x98 ≡ some b → n ≡ length (write_geometry (geometry_of s (get_or map i 0) (geometry_block b))) → n < 2 ^ 49
+        pub Measuring-one : (b : List ℕ) (n : ℕ) → resolved s (get_or ps i 0) 0x98 ≡ Some b → n ≡ length (write_geometry (geometry_of s (get_or map i 0) (geometry_block b))) → n < 2 ^ 49
             → Measuring s before map ps (i + 1) (total + n) (count + 1)
         unfolding read_geometries
         Measuring-one b n e en small =
@@ -86,29 +86,25 @@ module _ {s : Sections} {before : ℕ} {map ps : List ℕ} {i total count : ℕ}
               whole = m.whole ∙ ap (prepend m.done) step ∙ rw (a, add-one i) (prepend-one m.done g left);
             }
 
--- ---- the length behind a pointer tells whether the block resolved
+-- ---- a length is told where the block resolved
 
-geometry-some : (s : Sections) (shader : ℕ) (b : List ℕ) → 20 ≤ length (write_geometry (geometry_of s shader (geometry_block b)))
-unfolding write_geometry
-geometry-some s shader b = simp (length-append, geometry_record-length) (omega arith)
+option_none : {A B : Type 0} (f : A → B) (o : Option A) → None ≡ option_map f o → o ≡ None
+option_none f None e = refl
+option_none f (Some b) e = let z : ◌≡◌ {A = ℕ} 0 1 = cc in absurd (omega arith)
 
-zero-length : (s : Sections) (shader : ℕ) (o : Option (List ℕ)) → length_in s shader o ≡ 0 → o ≡ none
-zero-length s shader none e = refl
-zero-length s shader (some b) e = absurd (omega (arith, geometry-some s shader b))
-
-pub length_at-zero : (s : Sections) (shader pointer n : ℕ) → n ≡ length_at s shader pointer → n ≡ 0 → resolved s pointer 0x98 ≡ none
+pub length_at-none : (s : Sections) (shader pointer : ℕ) → None ≡ length_at s shader pointer → resolved s pointer 0x98 ≡ None
 unfolding length_at
-length_at-zero s shader pointer n e z = zero-length s shader (resolved s pointer 0x98) (sym e ∙ z)
+length_at-none s shader pointer e = option_none _ (resolved s pointer 0x98) e
 
 pub record Resolved (s : Sections) (shader pointer n : ℕ) : Type 0 where
   pub block : List ℕ
-  pub is : resolved s pointer 0x98 ≡ some block
+  pub is : resolved s pointer 0x98 ≡ Some block
   pub long : n ≡ length (write_geometry (geometry_of s shader (geometry_block block)))
 
-some-length : (s : Sections) (shader pointer n : ℕ) (o : Option (List ℕ)) → resolved s pointer 0x98 ≡ o → n ≡ length_in s shader o → (n ≡ 0 → ⊥) → Resolved s shader pointer n
-some-length s shader pointer n none q e h = absurd (h e)
-some-length s shader pointer n (some b) q e h = record { block = b; is = q; long = e }
+some-length : (s : Sections) (shader pointer n : ℕ) (o : Option (List ℕ)) → resolved s pointer 0x98 ≡ o → Some n ≡ option_map (λ b. length (write_geometry (geometry_of s shader (geometry_block b)))) o → Resolved s shader pointer n
+some-length s shader pointer n None q e = let z : ◌≡◌ {A = ℕ} 0 1 = cc in absurd (omega arith)
+some-length s shader pointer n (Some b) q e = record { block = b; is = q; long = same_Some _ _ e }
 
-pub length_at-some : (s : Sections) (shader pointer n : ℕ) → n ≡ length_at s shader pointer → (n ≡ 0 → ⊥) → Resolved s shader pointer n
+pub length_at-some : (s : Sections) (shader pointer n : ℕ) → Some n ≡ length_at s shader pointer → Resolved s shader pointer n
 unfolding length_at
-length_at-some s shader pointer n e h = some-length s shader pointer n (resolved s pointer 0x98) refl e h
+length_at-some s shader pointer n e = some-length s shader pointer n (resolved s pointer 0x98) refl e

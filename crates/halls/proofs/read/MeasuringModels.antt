@@ -13,10 +13,12 @@ use Rattle.halls.specs.List.{Model, each, write_model, write}
 use Rattle.halls.specs.Blocks.{ModelBlock, model_block}
 use Rattle.halls.specs.Reading.{Reading, read, and_then, list_at, mapping_of, read_model, read_models}
 use Rattle.halls.specs.Inner.Measure.{model_at, measured_model, measured_models, geometries_in}
+use Rattle.std.specs.Prelude.{Ok, Err}
+use Rattle.halls.specs.declared.answer.Refusal.{Refusal}
 use Rattle.halls.specs.declared.read.measure.Measured.{Measured}
 use Rattle.halls.proofs.read.EachLaws.{each_snoc}
 use Rattle.halls.proofs.read.ModelLaws.{geometries-NotZero}
-use Rattle.halls.proofs.read.ReadingLaws.{NotZero, read-NotZero, need-then, cond-NotZero, need-NotZero, then-NotZero, prepend, prepend-none, prepend-one, prepend-then, read_as, refused_as}
+use Rattle.halls.proofs.read.ReadingLaws.{NotZero, read-NotZero, cond-NotZero, need-NotZero, then-NotZero, need-then, prepend, prepend-none, prepend-one, prepend-then, read_as, refused_as}
 
 -- ---- lists of models
 
@@ -76,7 +78,7 @@ module _ {s : Sections} {ps : List ℕ} {i total count : ℕ} (m : MeasuringMode
       whole = m.whole ∙ ap (prepend m.done) (rw (next, eq-eqb (get_or ps i 0) 0 z, add-one));
     }
 
-    module _ (pointer : ℕ) (at : get_or ps i 0 ≡ pointer) (set : pointer ≡ 0 → ⊥) (v : Measured) (same : v ≡ measured_model (model_at s count pointer)) where
+    module _ (pointer : ℕ) (at : get_or ps i 0 ≡ pointer) (set : pointer ≡ 0 → ⊥) where
       abbrev model_bytes : Model → ℕ
       model_bytes x = length (write_model x)
 
@@ -90,14 +92,15 @@ module _ {s : Sections} {ps : List ℕ} {i total count : ℕ} (m : MeasuringMode
       unfolding read_models model_at
       step = rw (next, at, ne_eqb pointer 0 set) (need-then 3 (resolved s pointer 0x30) (λ b. read_model s count (model_block b)) onward)
 
-      pub models_refused : (v.refusal ≡ 0 → ⊥) → v ≡ measured_models (read_models s 0 ps)
-      models_refused h =
-          refused_as model_bytes model_count (λ (ms : List Model). length (write ms)) geometries_in (model_at s count pointer) v (λ x. prepend m.done (onward x)) same h
+      pub models_refused : (e : Refusal) → Err e ≡ measured_model (model_at s count pointer) → Err e ≡ measured_models (read_models s 0 ps)
+      models_refused e same =
+          refused_as model_bytes model_count (λ (ms : List Model). length (write ms)) geometries_in (model_at s count pointer) e (λ x. prepend m.done (onward x)) same
           ∙ ap measured_models (sym (prepend-then m.done (model_at s count pointer) onward) ∙ ap (prepend m.done) (sym step) ∙ sym m.whole)
 
-      pub models-one : v.refusal ≡ 0 → v.«length» ≤ v.count * 2 ^ 49 + 2 ^ 20 → count + v.count ≤ 16384 → MeasuringModels s ps (i + 1) (total + v.«length») (count + v.count)
-      models-one h small room =
-          let a = read_as model_bytes model_count (model_at s count pointer) v same (model-NotZero s count pointer) h in
+      pub models-one : (v : Measured) → Ok v ≡ measured_model (model_at s count pointer) → v.«length» ≤ v.count * 2 ^ 49 + 2 ^ 20 → count + v.count ≤ 16384
+          → MeasuringModels s ps (i + 1) (total + v.«length») (count + v.count)
+      models-one v same small room =
+          let a = read_as model_bytes model_count (model_at s count pointer) v same in
           let x : Model = a.value in
           let onto : ℕ → ℕ → Reading (List Model) = λ k j. prepend (m.done ++ (x ∷ [])) (read_models s k (drop j ps)) in
           record {

@@ -1,8 +1,7 @@
 -- A model behind a pointer: its lists, its refusals, and what its reading is made of.
+use Rattle.std.specs.Prelude.{None, Some, Result, Ok}
 use mathlib.Core.Path.{◌≡◌, refl, sym, ap, ◌∙◌}
-use mathlib.Core.Bool.{Bool, true, false, cond}
 use mathlib.Core.List.{List, [], ◌∷◌}
-use mathlib.Core.Option.{none, some}
 use Prim.Native.Nat.{ℕ, suc, ◌+◌, ◌*◌, ◌/◌, ◌^◌, ◌≤◌, ◌<◌}
 use native.Mathlib.Omega.{arith}
 use lib.Dec.{eqb, ltb}
@@ -14,11 +13,12 @@ use Rattle.vertices.proofs.RunLaws.{length_run, numbers-length}
 use Rattle.halls.specs.List.{Geometry, Model, write_geometries, model_record, write_model}
 use Rattle.halls.specs.Blocks.{ModelBlock, model_block}
 use Rattle.halls.specs.Reading.{Reading, refused, read, and_then, or_empty, list_at, mapping_of, read_geometries, read_model}
-use Rattle.halls.specs.Inner.Measure.{missing, list_bytes, model_at, measured_geometries, with_record, measured_model}
+use Rattle.halls.specs.Inner.Measure.{list_bytes, whole_numbers, model_at, measured_geometries, with_record, measured_model}
 use Rattle.halls.specs.Inner.View.{ListsOf}
+use Rattle.halls.specs.declared.answer.Refusal.{Refusal}
 use Rattle.halls.specs.declared.read.measure.Measured.{Measured}
-use Rattle.halls.proofs.read.ListBytes.{whole_numbers, list_absent, list_found, list-or_empty, list_short, even-whole}
-use Rattle.halls.proofs.read.ReadingLaws.{NotZero, refused-NotZero, read-NotZero, cond-NotZero, need-NotZero, then-NotZero}
+use Rattle.halls.proofs.read.ListBytes.{list_absent, list_found, list-or_empty, list_short, even-whole}
+use Rattle.halls.proofs.read.ReadingLaws.{NotZero, refused-NotZero, read-NotZero, cond-NotZero, need-NotZero, then-NotZero, measured_or_zero}
 use Rattle.halls.proofs.read.ViewLaws.{Record-length}
 
 -- the lists of a block, from the fields that were read
@@ -58,25 +58,25 @@ geometries-NotZero s before map (p ∷ ps) =
 -- ---- the model behind a pointer
 
 module _ (s : Sections) (before pointer : ℕ) where
-  pub model-unresolved : resolved s pointer 0x30 ≡ none → model_at s before pointer ≡ refused 3
+  pub model-unresolved : resolved s pointer 0x30 ≡ None → model_at s before pointer ≡ refused 3
   unfolding model_at
   model-unresolved e = rw e
 
-  module _ (raw : List ℕ) (is : resolved s pointer 0x30 ≡ some raw) where
-    pub model-no_list : (count geometries : ℕ) → count ≡ field 2 raw 0x10 → geometries ≡ field 8 raw 0x08 → missing (list_bytes s 8 count geometries) ≡ true → model_at s before pointer ≡ refused 4
+  module _ (raw : List ℕ) (is : resolved s pointer 0x30 ≡ Some raw) where
+    pub model-no_list : (count geometries : ℕ) → count ≡ field 2 raw 0x10 → geometries ≡ field 8 raw 0x08 → list_bytes s 8 count geometries ≡ None → model_at s before pointer ≡ refused 4
     unfolding model_at read_model model_block
     model-no_list count geometries e f h =
         rw is (list_absent s 8 (field 2 raw 0x10) (field 8 raw 0x08) refl (omega arith) 4 _ (rw (← e, ← f) h))
 
     module _ (pointers mapping : List ℕ) (l : ListsOf s (model_block raw) pointers mapping) (count geometries : ℕ) (e : count ≡ field 2 raw 0x10) (f : geometries ≡ field 8 raw 0x08)
-        (there : missing (list_bytes s 8 count geometries) ≡ false) where
+        (there : list_bytes s 8 count geometries ≡ Some pointers) where
       abbrev pub inside : Reading (List Geometry)
       inside = read_geometries s before (whole_numbers 2 mapping) (whole_numbers 8 pointers)
 
       abbrev model_with : List Geometry → Model
       model_with gs = record { binding = (model_block raw).binding; mask = (model_block raw).mask; mapping = whole_numbers 2 mapping; geometries = gs }
 
-      found : missing (list_bytes s 8 (model_block raw).count (model_block raw).geometries) ≡ false
+      found : list_bytes s 8 (model_block raw).count (model_block raw).geometries ≡ Some pointers
       unfolding model_block
       found = rw (← e, ← f) there
 
@@ -84,33 +84,23 @@ module _ (s : Sections) (before pointer : ℕ) where
       unfolding model_at read_model
       as_read =
           let b : ModelBlock = model_block raw in
-          rw (is, mapping-numbers s b pointers mapping l) (list_found s 8 b.count b.geometries refl (omega arith) 4 _ found
-          ∙ ap (λ (ps : List ℕ). and_then (read_geometries s before (whole_numbers 2 mapping) (whole_numbers 8 ps)) (λ gs. read (model_with gs))) (sym l.pointers_are))
+          rw (is, mapping-numbers s b pointers mapping l) (list_found s 8 b.count b.geometries refl (omega arith) 4 _ pointers found)
 
       length-with : (gs : List Geometry) → length (write_model (model_with gs)) ≡ 12 + length mapping + length (write_geometries gs)
       unfolding write_model model_record
       length-with gs = simp (length-append, Record-length, length-bytes, length_run, numbers-length) (omega (arith, mapping-even s (model_block raw) pointers mapping l))
 
-      by_cases : (r : Reading (List Geometry)) → NotZero r → with_record (length mapping) (measured_geometries r) ≡ measured_model (and_then r (λ gs. read (model_with gs)))
-      by_cases (refused check) z = rw z.is
-      by_cases (read gs) z = ap (λ (k : ℕ). record { refusal = 0; «length» = k; count = length gs }) (sym (length-with gs))
+      by_cases : (r : Reading (List Geometry)) → with_record (length mapping) (measured_geometries r) ≡ measured_model (and_then r (λ gs. read (model_with gs)))
+      by_cases (refused check) = refl
+      by_cases (read gs) = ap (λ (k : ℕ). Ok (record { «length» = k; count = length gs })) (sym (length-with gs))
 
       -- its measure, from that of its geometries
-      pub model-measured : {v : Measured} → v ≡ measured_geometries inside → with_record (length mapping) v ≡ measured_model (model_at s before pointer)
-      model-measured q =
-          ap (with_record (length mapping)) q ∙ by_cases inside (geometries-NotZero s before (whole_numbers 2 mapping) (whole_numbers 8 pointers)) ∙ ap measured_model (sym as_read)
+      pub model-measured : {v : Result Measured Refusal} → v ≡ measured_geometries inside → with_record (length mapping) v ≡ measured_model (model_at s before pointer)
+      model-measured q = ap (with_record (length mapping)) q ∙ by_cases inside ∙ ap measured_model (sym as_read)
 
 -- its bounds
-pub Record-length-bound : (n : ℕ) (v : Measured) → n ≤ 524280 → v.«length» ≤ v.count * 2 ^ 49 → (with_record n v).«length» ≤ (with_record n v).count * 2 ^ 49 + 2 ^ 20
-Record-length-bound n v h l = by-test (eqb v.refusal 0)
-  where
-    by-test : (t : Bool) → (cond t (record { refusal = 0; «length» = 12 + n + v.«length»; count = v.count }) v).«length» ≤ (cond t (record { refusal = 0; «length» = 12 + n + v.«length»; count = v.count }) v).count * 2 ^ 49 + 2 ^ 20
-    by-test true = omega arith
-    by-test false = omega arith
+pub Record-length-bound : (n : ℕ) (v : Measured) {w : Measured} → Ok w ≡ with_record n (Ok v) → n ≤ 524280 → v.«length» ≤ v.count * 2 ^ 49 → w.«length» ≤ w.count * 2 ^ 49 + 2 ^ 20
+Record-length-bound n v e h l = rw (ap measured_or_zero e) (omega arith)
 
-pub Record-count : (n : ℕ) (v : Measured) → (with_record n v).count ≡ v.count
-Record-count n v = by-test (eqb v.refusal 0)
-  where
-    by-test : (t : Bool) → (cond t (record { refusal = 0; «length» = 12 + n + v.«length»; count = v.count }) v).count ≡ v.count
-    by-test true = refl
-    by-test false = refl
+pub Record-count : (n : ℕ) (v : Measured) {w : Measured} → Ok w ≡ with_record n (Ok v) → w.count ≡ v.count
+Record-count n v e = ap (λ r. (measured_or_zero r).count) e

@@ -1,19 +1,19 @@
 -- Readings put together, and what a measure tells of one.
+use Rattle.std.specs.Prelude.{Option, None, Some, Result, Ok, Err}
 use mathlib.Core.Path.{◌≡◌, refl, sym, ap, ◌∙◌}
 use mathlib.Core.Bool.{Bool, true, false, cond}
 use mathlib.Core.List.{List, [], ◌∷◌, ◌++◌, append_assoc}
-use mathlib.Core.Option.{Option, none, some}
 use Prim.Native.Nat.{ℕ}
 use native.Mathlib.Omega.{arith}
-use borrow.Author.Tests.{eqb-false}
 use lib.Dec.{eqb}
 use Rattle.halls.specs.Reading.{Reading, refused, read, need, and_then}
 use Rattle.halls.specs.Inner.Measure.{measured}
+use Rattle.halls.specs.declared.answer.Refusal.{Refusal}
 use Rattle.halls.specs.declared.read.measure.Measured.{Measured}
 
 pub need-then : {A B : Type 0} (check : ℕ) (o : Option (List ℕ)) (f : List ℕ → Reading A) (g : A → Reading B) → need check o (λ b. and_then (f b) g) ≡ and_then (need check o f) g
-need-then check none f g = refl
-need-then check (some b) f g = refl
+need-then check None f g = refl
+need-then check (Some b) f g = refl
 
 -- ---- what a reading that was not refused went through
 
@@ -29,12 +29,12 @@ not-read e = let z : ◌≡◌ {A = ℕ} 0 1 = cc in absurd (omega arith)
 
 pub record Needed {A B : Type 0} (o : Option A) (f : A → Reading B) (y : B) : Type 0 where
   pub found : A
-  pub is : o ≡ some found
+  pub is : o ≡ Some found
   pub onward : f found ≡ read y
 
 pub need-read : {A B : Type 0} (check : ℕ) (o : Option A) (f : A → Reading B) (y : B) → need check o f ≡ read y → Needed o f y
-need-read check none f y e = absurd (not-read e)
-need-read check (some b) f y e = record { found = b; is = refl; onward = e }
+need-read check None f y e = absurd (not-read e)
+need-read check (Some b) f y e = record { found = b; is = refl; onward = e }
 
 pub record Joined {A B : Type 0} (r : Reading A) (f : A → Reading B) (y : B) : Type 0 where
   pub value : A
@@ -85,14 +85,14 @@ cond-NotZero true e f = e
 cond-NotZero false e f = f
 
 pub need-NotZero : {A : Type 0} (check : ℕ) (o : Option (List ℕ)) {f : List ℕ → Reading A} → eqb check 0 ≡ false → ((b : List ℕ) → NotZero (f b)) → NotZero (need check o f)
-need-NotZero check none e g = refused-NotZero check e
-need-NotZero check (some b) e g = g b
+need-NotZero check None e g = refused-NotZero check e
+need-NotZero check (Some b) e g = g b
 
 pub then-NotZero : {A B : Type 0} {r : Reading A} {f : A → Reading B} → NotZero r → ((x : A) → NotZero (f x)) → NotZero (and_then r f)
 then-NotZero {r = refused check} e g = refused-NotZero check e.is
 then-NotZero {r = read x} e g = g x
 
--- ---- so a measure tells whether something was read
+-- ---- a measure tells whether something was read
 
 pub record ReadAs {A : Type 0} (bytes_of count_of : A → ℕ) (r : Reading A) (v : Measured) : Type 0 where
   pub value : A
@@ -100,18 +100,35 @@ pub record ReadAs {A : Type 0} (bytes_of count_of : A → ℕ) (r : Reading A) (
   pub long : v.«length» ≡ bytes_of value
   pub many : v.count ≡ count_of value
 
+abbrev pub measured_or_zero : Result Measured Refusal → Measured
+measured_or_zero (Ok v) = v
+measured_or_zero (Err e) = record { «length» = 0; count = 0 }
+
+abbrev refusal_or_zero : Result Measured Refusal → Refusal
+refusal_or_zero (Ok v) = record { check = 0; needed = 0 }
+refusal_or_zero (Err e) = e
+
+-- a refusal, and what it says
+pub record RefusedAs {A : Type 0} (r : Reading A) (e : Refusal) : Type 0 where
+  pub is : r ≡ refused e.check
+  pub needs : e ≡ record { check = e.check; needed = 0 }
+
 module _ {A : Type 0} (bytes_of count_of : A → ℕ) where
-  pub read_as : (r : Reading A) (v : Measured) → v ≡ measured bytes_of count_of r → NotZero r → v.refusal ≡ 0 → ReadAs bytes_of count_of r v
-  read_as (refused check) v e z h = absurd (eqb-false check 0 z.is (sym (ap (λ (x : Measured). x.refusal) e) ∙ h))
-  read_as (read x) v e z h = record { value = x; is = refl; long = ap (λ (m : Measured). m.«length») e; many = ap (λ (m : Measured). m.count) e }
+  pub read_as : (r : Reading A) (v : Measured) → Ok v ≡ measured bytes_of count_of r → ReadAs bytes_of count_of r v
+  read_as (refused check) v e = let z : ◌≡◌ {A = ℕ} 0 1 = cc in absurd (omega arith)
+  read_as (read x) v e =
+      let m = ap measured_or_zero e in
+      record { value = x; is = refl; long = ap (λ (m : Measured). m.«length») m; many = ap (λ (m : Measured). m.count) m }
 
   -- a refusal is passed on
-  pub refused_as : {B : Type 0} (bytesOf' countOf' : B → ℕ) (r : Reading A) (v : Measured) (f : A → Reading B) → v ≡ measured bytes_of count_of r → (v.refusal ≡ 0 → ⊥)
-      → v ≡ measured bytesOf' countOf' (and_then r f)
-  refused_as bytesOf' countOf' (refused check) v f e h = e
-  refused_as bytesOf' countOf' (read x) v f e h = absurd (h (ap (λ (m : Measured). m.refusal) e))
+  pub refused_as : {B : Type 0} (bytesOf' countOf' : B → ℕ) (r : Reading A) (e : Refusal) (f : A → Reading B) → Err e ≡ measured bytes_of count_of r → Err e ≡ measured bytesOf' countOf' (and_then r f)
+  refused_as bytesOf' countOf' (refused check) e f q = q
+  refused_as bytesOf' countOf' (read x) e f q = let z : ◌≡◌ {A = ℕ} 0 1 = cc in absurd (omega arith)
 
   -- the number of a refusal
-  pub refusal_is : (r : Reading A) (v : Measured) → v ≡ measured bytes_of count_of r → (v.refusal ≡ 0 → ⊥) → r ≡ refused v.refusal
-  refusal_is (refused check) v e h = ap refused (sym (ap (λ (m : Measured). m.refusal) e))
-  refusal_is (read x) v e h = absurd (h (ap (λ (m : Measured). m.refusal) e))
+  pub refusal_is : (r : Reading A) (e : Refusal) → Err e ≡ measured bytes_of count_of r → RefusedAs r e
+  refusal_is (refused check) e q =
+      let w = ap refusal_or_zero q in
+      let c : e.check ≡ check = ap (λ (x : Refusal). x.check) w in
+      record { is = ap refused (sym c); needs = w ∙ ap (λ (k : ℕ). record { check = k; needed = 0 }) (sym c) }
+  refusal_is (read x) e q = let z : ◌≡◌ {A = ℕ} 0 1 = cc in absurd (omega arith)

@@ -1,13 +1,13 @@
 -- Where reading refuses nothing, the second pass writes what was read.
+use Rattle.std.specs.Prelude.{Option, None}
 use mathlib.Core.Path.{◌≡◌, refl, ap, ◌∙◌}
 use mathlib.Core.Bool.{Bool, true, false, cond}
 use mathlib.Core.List.{List, [], ◌∷◌, ◌++◌}
-use mathlib.Core.Option.{Option, none}
 use Prim.Native.Nat.{ℕ, suc, ◌+◌}
 use borrow.Author.Tests.{eqb-true}
 use lib.Dec.{eqb, ltb}
 use lib.ListN.{length}
-use Rattle.sections.specs.Address.{Sections, resolved, range_of}
+use Rattle.sections.specs.Address.{Sections, resolved}
 use Rattle.sections.proofs.AddressLaws.{located-zero}
 use Rattle.halls.specs.List.{Geometry, Model}
 use Rattle.halls.specs.Blocks.{ModelBlock, model_block, geometry_block}
@@ -15,9 +15,9 @@ use Rattle.halls.specs.Reading.{refused, read, need, and_then, first, rest, or_e
 use Rattle.halls.specs.Inner.View.{geometry_in, geometries_at, model_of, model_in, models_at}
 use Rattle.halls.proofs.read.ReadingLaws.{read-injective, not-read, need-read, then-read}
 
-null-unresolved : (s : Sections) (p n : ℕ) → p ≡ 0 → resolved s p n ≡ none
+null-unresolved : (s : Sections) (p n : ℕ) → p ≡ 0 → resolved s p n ≡ None
 unfolding resolved
-null-unresolved s p n z = ap (λ place. range_of s place n) (located-zero s p n z)
+null-unresolved s p n z = rw (located-zero s p n z)
 
 -- ---- geometries
 

@@ -1,44 +1,41 @@
 -- The view of a geometry: its length is that of the geometry's records.
+use Rattle.std.specs.Prelude.{Option, None, Some, unwrap_or, option_map}
+use Rattle.std.specs.Option.{option_or, option_and_then}
 use mathlib.Core.Path.{◌≡◌, refl, ap, ◌∙◌}
 use mathlib.Core.Bool.{Bool, true, false, cond}
-use mathlib.Core.List.{List, ◌++◌, append_assoc}
-use mathlib.Core.Logic.{◌⊎◌, ⊎_elim}
-use mathlib.Core.Option.{Option, none, some, map, get_or}
+use mathlib.Core.List.{List, [], ◌++◌, append_assoc}
 use Prim.Native.Nat.{ℕ, ◌+◌, ◌*◌, ◌≤◌}
 use native.Mathlib.Omega.{arith}
 use lib.Dec.{eqb}
 use lib.ListN.{length, length-append}
 use Rattle.sections.specs.Address.{Sections, located, resolved, range_of}
 use Rattle.sections.specs.Edit.{overwrite}
-use Rattle.sections.proofs.AddressLaws.{HasBytes, located-found}
+use Rattle.sections.proofs.AddressLaws.{HasBytes, FindsBytes, located-found}
 use Rattle.sections.proofs.EditLaws.{overwrite-then}
 use Rattle.sections.proofs.LeLaws.{length-bytes}
 use Rattle.sections.specs.declared.lookup.Located.{Located}
-use Rattle.sections.specs.declared.lookup.Located.TheVariants.{System, Graphics, Nothing}
-use Rattle.vertices.specs.Buffer.{found_buffer, layout_number, vertex_buffer_at, or_else}
+use Rattle.vertices.specs.Buffer.{layout_number, vertex_buffer_at}
 use Rattle.vertices.specs.Runs.{numbers}
 use Rattle.vertices.proofs.BufferLaws.{FoundData, buffer_data}
 use Rattle.vertices.proofs.DeclarationLaws.{declaration_length_lem}
 use Rattle.vertices.proofs.RunLaws.{length_run}
 use Rattle.vertices.specs.declared.declaration.VertexDeclaration.{VertexDeclaration}
 use Rattle.vertices.specs.declared.buffer.VertexBuffer.{VertexBuffer}
-use Rattle.vertices.specs.declared.buffer.FoundBuffer.{FoundBuffer}
-use Rattle.vertices.specs.declared.buffer.FoundBuffer.TheVariants.{Buffer, NotFound}
-use Rattle.vertices.specs.declared.buffer.StoredDeclaration.{StoredDeclaration}
-use Rattle.vertices.specs.declared.buffer.StoredDeclaration.TheVariants.{Declaration, Absent}
 use Rattle.halls.specs.List.{Vertices, Indices, Geometry, record_bytes, optional, geometry_record, declaration_record, vertices_record, indices_record, write_geometry}
 use Rattle.halls.specs.Blocks.{GeometryBlock, IndexBlock, index_block}
-use Rattle.halls.specs.Reading.{or_empty, declaration_of, stored_in, vertices_of, indices_at, sized_indices, indices_of, geometry_with, geometry_of}
-use Rattle.halls.specs.Inner.View.{seen_at, view_at, sized_view, or_view, block_view, index_view_in, indices_in, indices_seen, buffer_in, view_with, geometry_view, declaration_length, buffer_length, indices_length, view_length, stored_record, buffer_records, index_record, view_records, numbers_seen, BufferHeld}
+use Rattle.halls.specs.Reading.{or_empty, stored_in, vertices_of, indices_at, sized_indices, indices_of, geometry_with, geometry_of}
+use Rattle.halls.specs.Inner.View.{index_bytes, view_at, sized_view, block_view, index_view_in, indices_in, indices_seen, view_with, geometry_view, declaration_length, buffer_length, indices_length, view_length, stored_record, buffer_records, index_record, view_records, numbers_seen, BufferHeld}
 use Rattle.halls.proofs.read.HeldLaws.{items_length_lem}
+use Rattle.halls.specs.declared.read.view.IndexItems.{IndexItems}
 use Rattle.halls.specs.declared.read.view.IndexView.{IndexView}
-use Rattle.halls.specs.declared.read.view.FoundIndices.{FoundIndices}
+use Rattle.halls.specs.declared.read.view.IndexWidth.{IndexWidth}
+use Rattle.halls.specs.declared.read.view.IndexWidth.TheVariants.{Two, Four}
 use Rattle.halls.specs.declared.read.view.GeometryView.{GeometryView}
-use Rattle.halls.specs.declared.read.view.FoundIndices.TheVariants.{Indices as Seen, Absent as Unseen}
 
-pub buffer_in-found : (o : Option VertexBuffer) → buffer_in (found_buffer o) ≡ o
-buffer_in-found none = refl
-buffer_in-found (some b) = refl
+-- a view's buffer is the one that was found
+pub buffer_in-found : (s : Sections) (shader : ℕ) (b : GeometryBlock) (o : Option VertexBuffer) → (view_with s shader b o).buffer ≡ o
+unfolding view_with
+buffer_in-found s shader b o = refl
 
 -- ---- lengths of records
 
@@ -64,25 +61,25 @@ indices_record-length i = simp (Record-length, length-append, length-bytes, leng
 
 -- ---- the parts of a view
 
-pub declaration-part : (d : StoredDeclaration) → length (optional declaration_record (declaration_of d)) ≡ declaration_length d
-declaration-part Absent = refl
-declaration-part (Declaration d) = declaration_record-length d
+pub declaration-part : (d : Option VertexDeclaration) → length (optional declaration_record d) ≡ declaration_length d
+declaration-part None = refl
+declaration-part (Some d) = declaration_record-length d
 
 content_length_lem : (s : Sections) (place : Located) (n : ℕ) → HasBytes s place n → length (or_empty (range_of s place n)) ≡ n
 content_length_lem s place n h = rw h.is h.long
 
-buffer-part : (s : Sections) (o : Option VertexBuffer) → ((b : VertexBuffer) → o ≡ some b → FoundData s b)
-    → length (optional declaration_record (stored_in o)) + length (optional vertices_record (map (vertices_of s) o)) ≡ buffer_length (found_buffer o)
+buffer-part : (s : Sections) (o : Option VertexBuffer) → ((b : VertexBuffer) → o ≡ Some b → FoundData s b)
+    → length (optional declaration_record (stored_in o)) + length (optional vertices_record (option_map (vertices_of s) o)) ≡ buffer_length o
 unfolding vertices_of
-buffer-part s none f = refl
-buffer-part s (some b) f =
+buffer-part s None f = refl
+buffer-part s (Some b) f =
     rw (declaration-part b.declaration, vertices_record-length, content_length_lem s b.«data» (b.vertex_count * b.vertex_stride) (f b refl).bytes)
 
 -- the vertices right behind the declaration
 pub buffer_written : (s : Sections) (b : VertexBuffer) (out : List ℕ) (at next : ℕ) (content : List ℕ) {out₁ t : List ℕ} → out₁ ≡ overwrite out at (stored_record b.declaration)
     → next ≡ at + declaration_length b.declaration → content ≡ (vertices_of s b).content
     → t ≡ overwrite out₁ next (vertices_record (record { layout = layout_number b.layout; stride = b.vertex_stride; count = b.vertex_count; content = content }))
-    → at + declaration_length b.declaration + (13 + length content) ≤ length out → t ≡ overwrite out at (buffer_records s (Buffer b))
+    → at + declaration_length b.declaration + (13 + length content) ≤ length out → t ≡ overwrite out at (buffer_records s (Some b))
 unfolding vertices_of
 buffer_written s b out at next content {out₁} e n q w fit =
     let made : List ℕ → Vertices = λ x. record { layout = layout_number b.layout; stride = b.vertex_stride; count = b.vertex_count; content = x } in
@@ -94,57 +91,61 @@ buffer_written s b out at next content {out₁} e n q w fit =
 
 -- ---- indices
 
-abbrev seen_in : Sections → FoundIndices → Option Indices
-seen_in s Unseen = none
-seen_in s (Seen v) = some (indices_seen s v)
+-- the indices of a count, if they lie somewhere
+abbrev seen_in : Sections → ℕ → Option IndexItems → Option Indices
+seen_in s count o = option_map (λ (i : IndexItems). indices_seen s (record { count = count; items = Some i })) o
 
--- the indices of some width behind a place
-indices_behind : ℕ → ℕ → Option (List ℕ) → Option Indices
-indices_behind width count o = map (λ b. record { count = count; items = numbers width count b }) o
+-- the indices of some width in the bytes behind a place
+abbrev indices_behind : ℕ → ℕ → Option (List ℕ) → Option Indices
+indices_behind width count o = option_map (λ b. record { count = count; items = numbers width count b }) o
 
-module _ (s : Sections) (width count : ℕ) (some-width : eqb width 0 ≡ false) where
-  seen_place : (place : Located) → (place ≡ Nothing) ⊎ HasBytes s place (count * width)
-      → indices_behind width count (range_of s place (count * width)) ≡ seen_in s (seen_at width count place)
-  unfolding indices_behind indices_in
-  seen_place Nothing h = refl
-  seen_place (System at) h = ⊎_elim (λ q. let z : ◌≡◌ {A = ℕ} 0 1 = cc in absurd (omega arith)) (λ w. rw (some-width, w.is)) h
-  seen_place (Graphics at) h = ⊎_elim (λ q. let z : ◌≡◌ {A = ℕ} 0 1 = cc in absurd (omega arith)) (λ w. rw (some-width, w.is)) h
+module _ (s : Sections) (width : IndexWidth) (count : ℕ) where
+  seen_place : (o : Option Located) → FindsBytes s (count * index_bytes width) o
+      → indices_behind (index_bytes width) count (option_and_then (λ (place : Located). range_of s place (count * index_bytes width)) o)
+      ≡ seen_in s count (option_map (λ at. record { width = width; place = at }) o)
+  unfolding indices_in
+  seen_place None h = refl
+  seen_place (Some place) h = rw (h place refl).is
 
-  by_pointer : (t u : Bool) (o : Option Indices) (v : FoundIndices) → o ≡ seen_in s v → cond t none (cond u none o) ≡ seen_in s (cond t Unseen (cond u Unseen v))
+  by_pointer : (t u : Bool) (o : Option Indices) (v : Option IndexItems) → o ≡ seen_in s count v → cond t None (cond u None o) ≡ seen_in s count (cond t None (cond u None v))
   by_pointer true u o v e = refl
   by_pointer false true o v e = refl
   by_pointer false false o v e = e
 
-  view_at-is : (pointer : ℕ) → indices_at s width count pointer ≡ seen_in s (view_at s width count pointer)
-  unfolding indices_at view_at resolved indices_behind
+  view_at-is : (pointer : ℕ) → indices_at s (index_bytes width) count pointer ≡ seen_in s count (view_at s width count pointer)
+  unfolding indices_at view_at resolved
   view_at-is pointer =
-      by_pointer (eqb pointer 0) (eqb count 0) (indices_behind width count (range_of s (located s pointer (count * width)) (count * width))) (seen_at width count (located s pointer (count * width)))
-      (seen_place (located s pointer (count * width)) (located-found s pointer (count * width)))
+      let o : Option Located = located s pointer (count * index_bytes width) in
+      by_pointer (eqb pointer 0) (eqb count 0) (indices_behind (index_bytes width) count (option_and_then (λ (place : Located). range_of s place (count * index_bytes width)) o))
+      (option_map (λ at. record { width = width; place = at }) o) (seen_place o (located-found s pointer (count * index_bytes width)))
 
-by_size : (s : Sections) (t u : Bool) (o p : Option Indices) (v w : FoundIndices) → o ≡ seen_in s v → p ≡ seen_in s w → cond t o (cond u p none) ≡ seen_in s (cond t v (cond u w Unseen))
-by_size s true u o p v w e f = e
-by_size s false true o p v w e f = f
-by_size s false false o p v w e f = refl
+by_size : (s : Sections) (count : ℕ) (t u : Bool) (o p : Option Indices) (v w : Option IndexItems) → o ≡ seen_in s count v → p ≡ seen_in s count w
+    → cond t o (cond u p None) ≡ seen_in s count (cond t v (cond u w None))
+by_size s count true u o p v w e f = e
+by_size s count false true o p v w e f = f
+by_size s count false false o p v w e f = refl
 
-sized-is : (s : Sections) (size count pointer : ℕ) → sized_indices s size count pointer ≡ seen_in s (sized_view s size count pointer)
+sized-is : (s : Sections) (size count pointer : ℕ) → sized_indices s size count pointer ≡ seen_in s count (sized_view s size count pointer)
 unfolding sized_indices sized_view
-sized-is s size count pointer = by_size s (eqb size 2) (eqb size 4) _ _ _ _ (view_at-is s 2 count refl pointer) (view_at-is s 4 count refl pointer)
+sized-is s size count pointer = by_size s count (eqb size 2) (eqb size 4) _ _ _ _ (view_at-is s Two count pointer) (view_at-is s Four count pointer)
 
-first-seen : (s : Sections) (v w : FoundIndices) (last : IndexView) → get_or (or_else (seen_in s v) (seen_in s w)) (indices_seen s last) ≡ indices_seen s (or_view v (or_view w last))
-first-seen s (Seen v) w last = refl
-first-seen s Unseen (Seen w) last = refl
-first-seen s Unseen Unseen last = refl
+first-seen : (s : Sections) (count : ℕ) (v w : Option IndexItems) → unwrap_or (option_or (seen_in s count v) (seen_in s count w)) (record { count = count; items = [] })
+    ≡ indices_seen s (record { count = count; items = option_or v w })
+unfolding indices_in
+first-seen s count (Some v) w = refl
+first-seen s count None (Some w) = refl
+first-seen s count None None = refl
 
 -- the block's view shows the indices that are read
 pub block_view-is : (s : Sections) (b : IndexBlock) → indices_of s b ≡ indices_seen s (block_view s b)
-unfolding indices_of block_view indices_in
+unfolding indices_of block_view
 block_view-is s b =
-    rw (view_at-is s 2 b.count refl b.legacy, sized-is s b.size b.count b.sized)
-    (first-seen s (view_at s 2 b.count b.legacy) (sized_view s b.size b.count b.sized) (record { count = b.count; width = 0; place = Nothing }))
+    rw (view_at-is s Two b.count b.legacy, sized-is s b.size b.count b.sized)
+    (first-seen s b.count (view_at s Two b.count b.legacy) (sized_view s b.size b.count b.sized))
 
-index-part : (s : Sections) (o : Option (List ℕ)) → length (optional indices_record (map (λ raw. indices_of s (index_block raw)) o)) ≡ indices_length (index_view_in s o)
-index-part s none = refl
-index-part s (some raw) =
+index-part : (s : Sections) (o : Option (List ℕ)) → length (optional indices_record (option_map (λ raw. indices_of s (index_block raw)) o)) ≡ indices_length (index_view_in s o)
+index-part s None = refl
+index-part s (Some raw) =
     let v : IndexView = block_view s (index_block raw) in
     rw (block_view-is s (index_block raw), indices_record-length, items_length_lem v _)
 
@@ -160,15 +161,15 @@ view_length_lem s shader b =
 
 -- ---- its records, one behind the other
 
-buffer_records-length : (s : Sections) (f : FoundBuffer) → BufferHeld s f → length (buffer_records s f) ≡ buffer_length f
-buffer_records-length s NotFound h = refl
-buffer_records-length s (Buffer b) h =
+buffer_records-length : (s : Sections) (f : Option VertexBuffer) → BufferHeld s f → length (buffer_records s f) ≡ buffer_length f
+buffer_records-length s None h = refl
+buffer_records-length s (Some b) h =
     length-append (stored_record b.declaration) (vertices_record (vertices_of s b))
     ∙ (let p = declaration-part b.declaration in let q = vertices_record-length (vertices_of s b) in omega (arith, h.0))
 
-index_record-length : (s : Sections) (f : FoundIndices) → length (index_record s f) ≡ indices_length f
-index_record-length s Unseen = refl
-index_record-length s (Seen v) = rw (indices_record-length, items_length_lem v _)
+index_record-length : (s : Sections) (f : Option IndexView) → length (index_record s f) ≡ indices_length f
+index_record-length s None = refl
+index_record-length s (Some v) = rw (indices_record-length, items_length_lem v _)
 
 pub view_written : (s : Sections) (v : GeometryView) (out : List ℕ) (at : ℕ) {next : ℕ} {one two t : List ℕ} → BufferHeld s v.buffer → one ≡ overwrite out at (geometry_record (numbers_seen v))
     → two ≡ overwrite one (at + 20) (buffer_records s v.buffer) → next ≡ at + 20 + buffer_length v.buffer → t ≡ overwrite two next (index_record s v.indices)

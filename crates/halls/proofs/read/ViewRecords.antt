@@ -1,9 +1,9 @@
 -- A view of resolved blocks: its records are those of the geometry that is read, and its places hold what it says.
+use Rattle.std.specs.Prelude.{Option, None, Some, option_map}
+use Rattle.std.specs.Option.{option_or}
 use mathlib.Core.Path.{◌≡◌, refl, sym, ap, subst, ◌∙◌}
 use mathlib.Core.Bool.{Bool, true, false, cond}
 use mathlib.Core.List.{List, ◌++◌, append_assoc, append-nil}
-use mathlib.Core.Logic.{◌⊎◌, ⊎_elim, inl, inr}
-use mathlib.Core.Option.{Option, none, some, map}
 use Prim.{tt}
 use Prim.Native.Nat.{ℕ, ◌+◌, ◌*◌, ◌≤◌}
 use native.Mathlib.Omega.{arith}
@@ -13,28 +13,29 @@ use lib.ListN.{length}
 use Rattle.sections.specs.Address.{Sections, located, part_of, range_of, resolved}
 use Rattle.sections.specs.Edit.{part, fits}
 use Rattle.sections.specs.declared.lookup.Located.{Located}
-use Rattle.sections.specs.declared.lookup.Located.TheVariants.{System, Graphics, Nothing}
-use Rattle.sections.proofs.AddressLaws.{HasBytes, located-found}
-use Rattle.vertices.specs.Buffer.{found_buffer, vertex_buffer_at}
+use Rattle.sections.specs.declared.lookup.Located.TheVariants.{System, Graphics}
+use Rattle.sections.proofs.AddressLaws.{HasBytes, FindsBytes, located-found}
+use Rattle.vertices.specs.Buffer.{vertex_buffer_at}
 use Rattle.vertices.specs.declared.buffer.VertexBuffer.{VertexBuffer}
 use Rattle.vertices.proofs.BufferLaws.{FoundData, buffer_data}
 use Rattle.halls.specs.List.{each, optional, geometry_record, declaration_record, vertices_record, indices_record, write_geometry, write_geometries}
 use Rattle.halls.specs.Blocks.{GeometryBlock, geometry_block, IndexBlock, index_block}
 use Rattle.halls.specs.Reading.{or_empty, stored_in, vertices_of, indices_of, geometry_with, geometry_of}
-use Rattle.halls.specs.Inner.View.{BufferHeld, IndicesHeld, seen_at, view_at, sized_view, or_view, block_view, geometry_view, view_with, buffer_records, index_record, index_view_in, view_records, numbers_seen, view_length, geometry_in}
-use Rattle.halls.specs.declared.read.view.FoundIndices.{FoundIndices}
-use Rattle.halls.specs.declared.read.view.FoundIndices.TheVariants.{Indices as Seen, Absent as Unseen}
+use Rattle.halls.specs.Inner.View.{ViewHeld, BufferHeld, IndicesHeld, HeldIn, index_bytes, bytes_seen, view_at, sized_view, block_view, geometry_view, view_with, buffer_records, index_record, index_view_in, view_records, numbers_seen, view_length, geometry_in}
 use Rattle.halls.specs.declared.read.view.GeometryView.{GeometryView}
-use Rattle.halls.specs.declared.read.view.IndexView.{IndexView}
+use Rattle.halls.specs.Inner.Small.{Small}
+use Rattle.halls.specs.declared.read.view.IndexItems.{IndexItems}
+use Rattle.halls.specs.declared.read.view.IndexWidth.{IndexWidth}
+use Rattle.halls.specs.declared.read.view.IndexWidth.TheVariants.{Two, Four}
 use Rattle.halls.proofs.read.ViewLaws.{block_view-is, view_length_lem}
 
-buffer_records_lem : (s : Sections) (o : Option VertexBuffer) → buffer_records s (found_buffer o) ≡ optional declaration_record (stored_in o) ++ optional vertices_record (map (vertices_of s) o)
-buffer_records_lem s none = refl
-buffer_records_lem s (some b) = refl
+buffer_records_lem : (s : Sections) (o : Option VertexBuffer) → buffer_records s o ≡ optional declaration_record (stored_in o) ++ optional vertices_record (option_map (vertices_of s) o)
+buffer_records_lem s None = refl
+buffer_records_lem s (Some b) = refl
 
-index_record_lem : (s : Sections) (o : Option (List ℕ)) → index_record s (index_view_in s o) ≡ optional indices_record (map (λ raw. indices_of s (index_block raw)) o)
-index_record_lem s none = refl
-index_record_lem s (some raw) = ap indices_record (sym (block_view-is s (index_block raw)))
+index_record_lem : (s : Sections) (o : Option (List ℕ)) → index_record s (index_view_in s o) ≡ optional indices_record (option_map (λ raw. indices_of s (index_block raw)) o)
+index_record_lem s None = refl
+index_record_lem s (Some raw) = ap indices_record (sym (block_view-is s (index_block raw)))
 
 pub view_records_lem : (s : Sections) (shader : ℕ) (b : GeometryBlock) → view_records s (geometry_view s shader b) ≡ write_geometry (geometry_of s shader b)
 unfolding geometry_view view_with geometry_of geometry_with write_geometry geometry_record
@@ -43,89 +44,79 @@ view_records_lem s shader b =
     let i : Option (List ℕ) = resolved s b.index_block 0x60 in
     let head : List ℕ = geometry_record (numbers_seen (geometry_view s shader b)) in
     ap (λ (x : List ℕ). head ++ (x ++ index_record s (index_view_in s i))) (buffer_records_lem s o)
-    ∙ ap (λ (x : List ℕ). head ++ ((optional declaration_record (stored_in o) ++ optional vertices_record (map (vertices_of s) o)) ++ x)) (index_record_lem s i)
-    ∙ ap (λ (x : List ℕ). head ++ x) (append_assoc (optional declaration_record (stored_in o)) (optional vertices_record (map (vertices_of s) o)) _)
+    ∙ ap (λ (x : List ℕ). head ++ ((optional declaration_record (stored_in o) ++ optional vertices_record (option_map (vertices_of s) o)) ++ x)) (index_record_lem s i)
+    ∙ ap (λ (x : List ℕ). head ++ x) (append_assoc (optional declaration_record (stored_in o)) (optional vertices_record (option_map (vertices_of s) o)) _)
 
 -- ---- places in small sections
 
--- check 1
-pub record Small (s : Sections) : Type 0 where
-  pub system : length s.system ≤ 67108864
-  pub graphics : length s.graphics ≤ 67108864
-
-part-fits : (t : Bool) (l : List ℕ) (at n : ℕ) (b : List ℕ) → fits l at n ≡ t → cond t (some (part l at n)) none ≡ some b → at + n ≤ length l
+part-fits : (t : Bool) (l : List ℕ) (at n : ℕ) (b : List ℕ) → fits l at n ≡ t → cond t (Some (part l at n)) None ≡ Some b → at + n ≤ length l
 part-fits true l at n b e f = leb-true (at + n) (length l) e
 part-fits false l at n b e f = let z : ◌≡◌ {A = ℕ} 0 1 = cc in absurd (omega arith)
 
 has_few : (s : Sections) (place : Located) (n : ℕ) → Small s → HasBytes s place n → n ≤ 67108864
 unfolding part_of
-has_few s Nothing n m h = let e = h.is in let z : ◌≡◌ {A = ℕ} 0 1 = cc in absurd (omega arith)
 has_few s (System at) n m h = omega (arith, part-fits (fits s.system at n) s.system at n h.content refl h.is, m.system)
 has_few s (Graphics at) n m h = omega (arith, part-fits (fits s.graphics at n) s.graphics at n h.content refl h.is, m.graphics)
 
 held-content : (s : Sections) (place : Located) (n : ℕ) → Small s → HasBytes s place n → (length (or_empty (range_of s place n)) ≡ n) × (length (or_empty (range_of s place n)) ≤ 67108864)
 held-content s place n m h = (rw h.is h.long, rw (h.is, h.long) (has_few s place n m h))
 
-buffer_held : (s : Sections) (o : Option VertexBuffer) → Small s → ((b : VertexBuffer) → o ≡ some b → FoundData s b) → BufferHeld s (found_buffer o)
+buffer_held : (s : Sections) (o : Option VertexBuffer) → Small s → ((b : VertexBuffer) → o ≡ Some b → FoundData s b) → BufferHeld s o
 unfolding vertices_of
-buffer_held s none m f = tt
-buffer_held s (some b) m f =
+buffer_held s None m f = tt
+buffer_held s (Some b) m f =
     let p = held-content s b.«data» (b.vertex_count * b.vertex_stride) m (f b refl).bytes in
     (p.0, omega (arith, p.1))
 
 -- ---- indices
 
-abbrev OneOf : ℕ → Type 0
-OneOf w = (w ≡ 0) ⊎ ((w ≡ 2) ⊎ (w ≡ 4))
+-- the bytes of these items are there
+abbrev ItemsHeld : Sections → ℕ → Option IndexItems → Type 0
+ItemsHeld s count o = HeldIn (record { count = count; items = o }) (bytes_seen s (record { count = count; items = o }))
 
-module _ (s : Sections) (m : Small s) (width count : ℕ) (one : OneOf width) where
-  at_place : (place : Located) → (place ≡ Nothing) ⊎ HasBytes s place (count * width) → IndicesHeld s (seen_at width count place)
-  at_place Nothing h = tt
-  at_place (System at) h = ⊎_elim (λ q. let z : ◌≡◌ {A = ℕ} 0 1 = cc in absurd (omega arith)) (λ w.
-      let p = held-content s (System at) (count * width) m w in
-      record { width = one; long = p.0; few = omega (arith, p.1) }) h
-  at_place (Graphics at) h = ⊎_elim (λ q. let z : ◌≡◌ {A = ℕ} 0 1 = cc in absurd (omega arith)) (λ w.
-      let p = held-content s (Graphics at) (count * width) m w in
-      record { width = one; long = p.0; few = omega (arith, p.1) }) h
+none_held : (s : Sections) (count : ℕ) → ItemsHeld s count None
+none_held s count = record { long = refl; few = omega arith }
 
-  either : (t u : Bool) (v : FoundIndices) → IndicesHeld s v → IndicesHeld s (cond t Unseen (cond u Unseen v))
-  either true u v h = tt
-  either false true v h = tt
+module _ (s : Sections) (m : Small s) (width : IndexWidth) (count : ℕ) where
+  at_place : (o : Option Located) → FindsBytes s (count * index_bytes width) o → ItemsHeld s count (option_map (λ at. record { width = width; place = at }) o)
+  at_place None h = none_held s count
+  at_place (Some place) h =
+      let p = held-content s place (count * index_bytes width) m (h place refl) in
+      record { long = p.0; few = omega (arith, p.1) }
+
+  either : (t u : Bool) (v : Option IndexItems) → ItemsHeld s count v → ItemsHeld s count (cond t None (cond u None v))
+  either true u v h = none_held s count
+  either false true v h = none_held s count
   either false false v h = h
 
-  view_at-held : (pointer : ℕ) → IndicesHeld s (view_at s width count pointer)
+  view_at-held : (pointer : ℕ) → ItemsHeld s count (view_at s width count pointer)
   unfolding view_at
   view_at-held pointer =
-      either (eqb pointer 0) (eqb count 0) (seen_at width count (located s pointer (count * width)))
-      (at_place (located s pointer (count * width)) (located-found s pointer (count * width)))
+      let o : Option Located = located s pointer (count * index_bytes width) in
+      either (eqb pointer 0) (eqb count 0) (option_map (λ at. record { width = width; place = at }) o) (at_place o (located-found s pointer (count * index_bytes width)))
 
-sized-held : (s : Sections) (m : Small s) (size count pointer : ℕ) → IndicesHeld s (sized_view s size count pointer)
+sized-held : (s : Sections) (m : Small s) (size count pointer : ℕ) → ItemsHeld s count (sized_view s size count pointer)
 unfolding sized_view
 sized-held s m size count pointer =
-    by_size (eqb size 2) (eqb size 4) (view_at s 2 count pointer) (view_at s 4 count pointer) (view_at-held s m 2 count (inr (inl refl)) pointer) (view_at-held s m 4 count (inr (inr refl)) pointer)
+    by_size (eqb size 2) (eqb size 4) (view_at s Two count pointer) (view_at s Four count pointer) (view_at-held s m Two count pointer) (view_at-held s m Four count pointer)
   where
-    by_size : (t u : Bool) (v w : FoundIndices) → IndicesHeld s v → IndicesHeld s w → IndicesHeld s (cond t v (cond u w Unseen))
+    by_size : (t u : Bool) (v w : Option IndexItems) → ItemsHeld s count v → ItemsHeld s count w → ItemsHeld s count (cond t v (cond u w None))
     by_size true u v w h k = h
     by_size false true v w h k = k
-    by_size false false v w h k = tt
+    by_size false false v w h k = none_held s count
 
-or-held : (s : Sections) (v : FoundIndices) (w : IndexView) → IndicesHeld s v → IndicesHeld s (Seen w) → IndicesHeld s (Seen (or_view v w))
-or-held s Unseen w h k = k
-or-held s (Seen v) w h k = h
+or-held : (s : Sections) (count : ℕ) (v w : Option IndexItems) → ItemsHeld s count v → ItemsHeld s count w → ItemsHeld s count (option_or v w)
+or-held s count None w h k = k
+or-held s count (Some v) w h k = h
 
-block_held : (s : Sections) (m : Small s) (b : IndexBlock) → IndicesHeld s (Seen (block_view s b))
+block_held : (s : Sections) (m : Small s) (b : IndexBlock) → IndicesHeld s (Some (block_view s b))
 unfolding block_view
 block_held s m b =
-    or-held s (view_at s 2 b.count b.legacy) _ (view_at-held s m 2 b.count (inr (inl refl)) b.legacy)
-    (or-held s (sized_view s b.size b.count b.sized) _ (sized-held s m b.size b.count b.sized) (record { width = inl refl; long = omega arith; few = omega arith }))
+    or-held s b.count (view_at s Two b.count b.legacy) (sized_view s b.size b.count b.sized) (view_at-held s m Two b.count b.legacy) (sized-held s m b.size b.count b.sized)
 
 index-held : (s : Sections) (m : Small s) (o : Option (List ℕ)) → IndicesHeld s (index_view_in s o)
-index-held s m none = tt
-index-held s m (some raw) = block_held s m (index_block raw)
-
-pub record ViewHeld (s : Sections) (v : GeometryView) : Type 0 where
-  pub buffer : BufferHeld s v.buffer
-  pub indices : IndicesHeld s v.indices
+index-held s m None = tt
+index-held s m (Some raw) = block_held s m (index_block raw)
 
 pub ViewHeld_lem : (s : Sections) (m : Small s) (shader : ℕ) (b : GeometryBlock) → ViewHeld s (geometry_view s shader b)
 unfolding geometry_view view_with
@@ -137,7 +128,7 @@ ViewHeld_lem s m shader b = record {
 
 -- ---- the view of the block behind a pointer
 
-module _ (s : Sections) (shader pointer : ℕ) (raw : List ℕ) (e : resolved s pointer 0x98 ≡ some raw) (v : GeometryView) (q : v ≡ geometry_view s shader (geometry_block raw)) where
+module _ (s : Sections) (shader pointer : ℕ) (raw : List ℕ) (e : resolved s pointer 0x98 ≡ Some raw) (v : GeometryView) (q : v ≡ geometry_view s shader (geometry_block raw)) where
   pub seen-records : view_records s v ≡ write_geometries (geometry_in s shader (resolved s pointer 0x98))
   unfolding each
   seen-records =

@@ -1,5 +1,6 @@
 -- The two walks of the second pass, by the bytes of their pointers: what is left behind the first i of them.
-use mathlib.Core.Path.{◌≡◌, sym, ◌∙◌}
+use Rattle.std.specs.Prelude.{Option, None}
+use mathlib.Core.Path.{◌≡◌, refl, sym, ap, ◌∙◌}
 use mathlib.Core.List.{List, [], ◌++◌}
 use Prim.Native.Nat.{ℕ, suc, ◌*◌, ◌/◌, ◌≤◌, ◌<◌}
 use native.Mathlib.Omega.{arith}
@@ -31,6 +32,10 @@ module _ (s : Sections) (pointers : List ℕ) where
   unfolding models_at
   models-next i pointer more e = rw (drop-cons addresses i 0 (rw numbers-length more), address-at i pointer e)
 
+  -- a pointer whose block does not resolve has none
+  pub models-skip : (i pointer : ℕ) → i < length pointers / 8 → pointer ≡ field 8 pointers (i * 8) → resolved s pointer 0x30 ≡ None → models_left i ≡ models_left (suc i)
+  models-skip i pointer more e none = models-next i pointer more e ∙ ap (λ (o : Option (List ℕ)). model_in s o ++ models_left (suc i)) none
+
   module _ (mapping : List ℕ) where
     abbrev shaders : List ℕ
     shaders = numbers 2 (length mapping / 2) mapping
@@ -50,3 +55,8 @@ module _ (s : Sections) (pointers : List ℕ) where
     unfolding geometries_at
     geometries-next i shader pointer more p q =
         rw (drop-cons addresses i 0 (rw numbers-length more), first-drop i shaders, rest-drop i shaders, shader-at i shader p, address-at i pointer q)
+
+    pub geometries-skip : (i pointer : ℕ) → i < length pointers / 8 → pointer ≡ field 8 pointers (i * 8) → resolved s pointer 0x98 ≡ None → geometries_left i ≡ geometries_left (suc i)
+    geometries-skip i pointer more q none =
+        let shader : ℕ = field 2 mapping (i * 2) in
+        geometries-next i shader pointer more refl q ∙ ap (λ (o : Option (List ℕ)). geometry_in s shader o ++ geometries_left (suc i)) none

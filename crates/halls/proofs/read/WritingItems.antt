@@ -34,6 +34,17 @@ module _ {A : Type 0} {f : A → List ℕ} {left : ℕ → List A} {d : List ℕ
     pub items-end : b ≡ overwrite d at (each f (left 0))
     items-end = w.is ∙ ap (λ (xs : List A). overwrite d at (each f xs)) (sym ended)
 
+  -- the next pointer has none
+  pub items_skip : left i ≡ left (suc i) → WritingItems f left d at b (i + 1) next
+  items_skip e = record {
+    done = w.done;
+    same = w.same;
+    next-is = w.next-is;
+    is = w.is;
+    whole = w.whole ∙ ap (λ (xs : List A). w.done ++ xs) e ∙ ap (λ k. w.done ++ left k) (sym (add-one i));
+    room = w.room;
+  }
+
   -- the next pointer has these items
   module _ (one : List A) (step : left i ≡ one ++ left (suc i)) where
     all : left 0 ≡ (w.done ++ one) ++ left (suc i)

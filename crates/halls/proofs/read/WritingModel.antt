@@ -1,7 +1,7 @@
 -- A model's record and its geometries, from the bytes of its mapping and of its pointers.
+use Rattle.std.specs.Prelude.{Option, Some}
 use mathlib.Core.Path.{◌≡◌, sym, ap, ◌∙◌}
 use mathlib.Core.List.{List, ◌++◌}
-use mathlib.Core.Option.{Option, some}
 use Prim.Native.Nat.{ℕ, ◌+◌, ◌/◌, ◌≤◌}
 use native.Mathlib.Omega.{arith}
 use lib.ListN.{length, length-append}
@@ -51,5 +51,5 @@ module _ (s : Sections) (b : ModelBlock) (pointers mapping : List ℕ) (l : List
       ∙ ap (λ k. overwrite out at (head k mask ++ geometries)) e ∙ ap (λ k. overwrite out at (head b.binding k ++ geometries)) f ∙ ap (overwrite out at) model-parts
 
 -- the model behind a pointer
-pub model_in_lem : (s : Sections) (pointer : ℕ) (raw : List ℕ) → resolved s pointer 0x30 ≡ some raw → write_model (model_of s (model_block raw)) ≡ write (model_in s (resolved s pointer 0x30))
+pub model_in_lem : (s : Sections) (pointer : ℕ) (raw : List ℕ) → resolved s pointer 0x30 ≡ Some raw → write_model (model_of s (model_block raw)) ≡ write (model_in s (resolved s pointer 0x30))
 model_in_lem s pointer raw e = sym (each-one write_model (model_of s (model_block raw))) ∙ ap (λ (o : Option (List ℕ)). write (model_in s o)) (sym e)

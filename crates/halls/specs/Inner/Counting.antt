@@ -1,17 +1,15 @@
 -- Triangles counted: how many of their indices are below a limit and how many pairs are equal, and what that says of checks 18 and 27. Private
 -- contracts speak of this; `ScanLaws` ties it to the checks.
 use Rattle.std.specs.Prelude.{Bool, cond, List, ℕ, ◌+◌, ◌*◌, eqb, ltb, get_or}
-use Rattle.sections.specs.Edit.{part}
-use Rattle.sections.specs.Le.{le}
 use Rattle.halls.specs.Inner.Order.{passed}
 use Rattle.halls.specs.declared.check.triangle.Triangle.{Triangle}
 
--- the triangle whose indices, so wide each, stand at a place of some bytes; and at a place of a list of indices
-abbrev pub triangle_at : ℕ → List ℕ → ℕ → Triangle
-triangle_at width s at = record { a = le (part s at width); b = le (part s (at + width) width); c = le (part s (at + 2 * width) width) }
-
+-- the triangle at a place of a list of indices, and the i-th triangle of the list
 abbrev pub lent_triangle_at : List ℕ → ℕ → Triangle
 lent_triangle_at xs at = record { a = get_or xs at 0; b = get_or xs (at + 1) 0; c = get_or xs (at + 2) 0 }
+
+abbrev pub triangle_in : List ℕ → ℕ → Triangle
+triangle_in xs i = lent_triangle_at xs (3 * i)
 
 -- what a test adds to a count
 abbrev pub one : Bool → ℕ

@@ -8,9 +8,11 @@ use Rattle.vertices.specs.declared.declaration.VertexDeclaration.{VertexDeclarat
 use Rattle.halls.specs.Checks.{vertex_bytes_exact, strides_agree, has_size, components_inside, vertex_counts_agree, index_counts_agree, indices_in_range, triangles_of, has_three_vertices, triangles_distinct}
 use Rattle.halls.specs.Every.{every}
 use Rattle.halls.specs.Fronts.{entries_at, content_at, held_at}
+use Rattle.halls.specs.Calls.{Given}
 use Rattle.halls.specs.Hall.{FullGeometry}
 use Rattle.halls.specs.Inner.Order.{passed}
 use Rattle.halls.specs.declared.check.geometry.GeometryHead.{GeometryHead}
+use Rattle.halls.specs.declared.edit.add_geometry.GivenGeometry.{GivenGeometry}
 
 -- ---- one geometry
 
@@ -32,6 +34,10 @@ lowest_of g = head_lowest g (indices_lowest g)
 -- check 15 by declaration and stride
 unfoldable pub inside_stride : VertexDeclaration → ℕ → Bool
 inside_stride d stride = has_size (component_of d 0) && leb (total_size d) stride
+
+-- a geometry as a caller gives it
+abbrev pub given_in : GivenGeometry → Given
+given_in g = record { shader = g.shader; declaration = g.declaration; stride = g.stride; count = g.count; content = g.content.now; indices = g.indices.now }
 
 -- with check 11, where the vertex bytes are given
 unfoldable pub given_lowest : FullGeometry → ℕ

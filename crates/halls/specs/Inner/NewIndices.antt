@@ -6,8 +6,8 @@ use Rattle.halls.specs.Checks.{require, triangles_of, has_three_vertices}
 use Rattle.halls.specs.Every.{every}
 use Rattle.halls.specs.List.{Indices, indices_record}
 use Rattle.halls.specs.Inner.Walk.{units}
-use Rattle.halls.specs.declared.check.check.Verdict.{Verdict}
-use Rattle.halls.specs.declared.check.check.Verdict.TheVariants.{Sound}
+use Rattle.halls.specs.Verdict.{Verdict}
+use Rattle.halls.specs.Verdict.{Sound}
 
 -- checks 17, 18, 27 and 19: of indices of `count` vertices in a hall of so many models, whose parts of the image have so many units then
 unfoldable pub indices_verdict : List ℕ → ℕ → ℕ → ℕ → Verdict

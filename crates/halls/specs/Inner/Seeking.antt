@@ -1,6 +1,6 @@
 -- How the finder seeks a record, from the place of the check's pass that is nearest. Private contracts speak of this; `PlaceLaws` ties it to the places in a hall.
+use Rattle.std.specs.Prelude.{Option, None, Some, unwrap_or}
 use Rattle.std.specs.Prelude.{◌≡◌, cond, ◌&&◌, List, [], ◌∷◌, ℕ, ◌+◌, ◌-◌, ◌≤◌, ◌<◌, min, eqb, leb, length, drop}
-use Rattle.std.proofs.Math.Option.{Option, none, some, get_or}
 use Rattle.sections.specs.Le.{field}
 use Rattle.halls.specs.Parsing.{models_in}
 use Rattle.halls.specs.Records.{Record, records}
@@ -8,14 +8,14 @@ use Rattle.halls.specs.declared.check.pass.Mark.{Mark}
 
 -- of records that begin at `at`, the place of the one of this kind with `skip` of its kind before it; a model's record ends the search for another kind
 unfoldable pub place_of : ℕ → ℕ → ℕ → List Record → Option ℕ
-place_of kind skip at [] = none
+place_of kind skip at [] = None
 place_of kind skip at (r ∷ rs) =
-    cond (eqb r.kind kind) (cond (eqb skip 0) (some at) (place_of kind (skip - 1) (at + 6 + length r.body) rs))
-    (cond (eqb r.kind 1) none (place_of kind skip (at + 6 + length r.body) rs))
+    cond (eqb r.kind kind) (cond (eqb skip 0) (Some at) (place_of kind (skip - 1) (at + 6 + length r.body) rs))
+    (cond (eqb r.kind 1) None (place_of kind skip (at + 6 + length r.body) rs))
 
 -- from the record on that begins at `at`; the end of the bytes where there is none
 unfoldable pub sought : List ℕ → ℕ → ℕ → ℕ → ℕ
-sought s at kind skip = get_or (place_of kind skip at (records (drop at s))) (length s)
+sought s at kind skip = unwrap_or (place_of kind skip at (records (drop at s))) (length s)
 
 -- ---- a place that a pass has reached
 

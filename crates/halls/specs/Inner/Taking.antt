@@ -1,11 +1,8 @@
 -- Take in: a reading as a hall's models and geometries, what they come to, and their bytes. Private contracts speak of this; `TakenVerdict` and `TakenBytes` tie it to the hall that `take_in` proposes.
+use Rattle.std.specs.Prelude.{Option, None, Some, option_map, unwrap_or}
 use Rattle.std.specs.Prelude.{List, [], ◌∷◌, ◌++◌, map, ℕ, ◌+◌, ◌*◌, ◌^◌, ◌<◌, min, length}
-use Rattle.std.proofs.Math.Option
-use Rattle.std.proofs.Math.Option.{Option, none, some}
 use Rattle.sections.specs.Address.{Sections}
 use Rattle.sections.specs.Lists.{header_at}
-use Rattle.sections.specs.declared.lists.FoundHeader.{FoundHeader}
-use Rattle.sections.specs.declared.lists.FoundHeader.TheVariants.{Header, Unresolved}
 use Rattle.sections.specs.declared.lists.PointerListHeader.{PointerListHeader}
 use Rattle.halls.specs.Calls.{taken_geometry}
 use Rattle.halls.specs.Hall.{FullGeometry, listed_geometry}
@@ -15,25 +12,19 @@ use Rattle.halls.specs.List.{Vertices, Indices, Geometry, Model, optional, each,
 use Rattle.sections.specs.Le.{bytes}
 use Rattle.vertices.specs.Runs.{run}
 use Rattle.vertices.specs.Buffer.{or_position_only}
-use Rattle.vertices.specs.declared.buffer.FoundBuffer.{FoundBuffer}
-use Rattle.vertices.specs.declared.buffer.FoundBuffer.TheVariants.{Buffer, NotFound}
 use Rattle.vertices.specs.declared.buffer.VertexBuffer.{VertexBuffer}
 use Rattle.halls.specs.Reading.{stored_in, vertices_of}
-use Rattle.halls.specs.Inner.View.{indices_in, indices_seen, held_count, buffer_in, numbers_seen}
+use Rattle.halls.specs.Inner.View.{indices_in, indices_seen, held_count, numbers_seen}
 use Rattle.halls.specs.Inner.Walk.{model_units, geometry_units}
 use Rattle.halls.specs.declared.check.geometry.GeometryHead.{GeometryHead}
 use Rattle.halls.specs.declared.edit.judge_read.Taken.{Taken}
-use Rattle.halls.specs.declared.read.view.FoundIndices.{FoundIndices}
-use Rattle.halls.specs.declared.read.view.FoundIndices.TheVariants.{Indices as Seen, Absent as Unseen}
 use Rattle.halls.specs.declared.read.view.GeometryView.{GeometryView}
 use Rattle.halls.specs.declared.read.view.IndexView.{IndexView}
-use Rattle.vertices.specs.declared.declaration.VertexDeclaration.{VertexDeclaration}
 
 -- ---- the geometry that a view shows
 
-abbrev pub indices_shown : Sections → FoundIndices → Option Indices
-indices_shown s Unseen = none
-indices_shown s (Seen v) = some (indices_seen s v)
+abbrev pub indices_shown : Sections → Option IndexView → Option Indices
+indices_shown s v = option_map (indices_seen s) v
 
 unfoldable pub geometry_shown : Sections → GeometryView → Geometry
 geometry_shown s v = record {
@@ -42,8 +33,8 @@ geometry_shown s v = record {
   triangle_count = v.triangle_count;
   vertex_count = v.vertex_count;
   stride = v.stride;
-  declaration = stored_in (buffer_in v.buffer);
-  vertices = Option.map (vertices_of s) (buffer_in v.buffer);
+  declaration = stored_in v.buffer;
+  vertices = option_map (vertices_of s) v.buffer;
   indices = indices_shown s v.indices;
 }
 
@@ -55,16 +46,16 @@ as_halls g = taken_geometry g g.vertices g.indices
 
 -- the lowest rank of checks 11, 14 to 18 and 27 that fails
 abbrev pub lowest_in : Option FullGeometry → ℕ
-lowest_in none = 11
-lowest_in (some g) = lowest_of g
+lowest_in None = 11
+lowest_in (Some g) = lowest_of g
 
 abbrev pub content_in : Option Vertices → ℕ
-content_in none = 0
-content_in (some v) = length v.content
+content_in None = 0
+content_in (Some v) = length v.content
 
 abbrev pub held_in : Option Indices → ℕ
-held_in none = 0
-held_in (some i) = length i.items
+held_in None = 0
+held_in (Some i) = length i.items
 
 unfoldable pub geometry_taken : Geometry → Taken
 geometry_taken g = record {
@@ -107,17 +98,17 @@ unfoldable pub model_bytes : Model → List ℕ
 model_bytes m =
     record_bytes 1 (bytes 4 m.binding ++ (bytes 2 m.mask ++ run 2 (map (λ (g : Geometry). g.shader) m.geometries))) ++ each geometry_bytes m.geometries
 
--- the four records of what a view shows, where these are its declaration and its bytes
-unfoldable pub records_shown : GeometryView → VertexDeclaration → ℕ → ℕ → List ℕ → IndexView → List ℕ → List ℕ
-records_shown view declaration stride count content v raw =
+-- the four records of what a view shows, where these are its buffer, its indices and their bytes
+unfoldable pub records_shown : GeometryView → VertexBuffer → List ℕ → IndexView → List ℕ → List ℕ
+records_shown view b content v raw =
     geometry_record (numbers_seen view)
-    ++ (declaration_record declaration ++ (vertices_record (record { layout = 0; stride = stride; count = count; content = content }) ++ indices_record (indices_in v raw)))
+    ++ (declaration_record (or_position_only b.declaration b.vertex_stride)
+    ++ (vertices_record (record { layout = 0; stride = b.vertex_stride; count = b.vertex_count; content = content }) ++ indices_record (indices_in v raw)))
 
 -- ---- the header at an address; where it does not resolve, that of an empty list
 
-abbrev pub or_empty_list : FoundHeader → PointerListHeader
-or_empty_list (Header h) = h
-or_empty_list Unresolved = record { pointer = 0; count = 0; capacity = 0 }
+abbrev pub or_empty_list : Option PointerListHeader → PointerListHeader
+or_empty_list h = unwrap_or h (record { pointer = 0; count = 0; capacity = 0 })
 
 abbrev pub header_or_empty : Sections → ℕ → PointerListHeader
 header_or_empty s va = or_empty_list (header_at s va)
@@ -125,13 +116,13 @@ header_or_empty s va = or_empty_list (header_at s va)
 -- ---- what the pass that judges carries on its way
 
 -- the vertex bytes and the indices of a view
-abbrev pub content_seen : FoundBuffer → ℕ
-content_seen NotFound = 0
-content_seen (Buffer b) = b.vertex_count * b.vertex_stride
+abbrev pub content_seen : Option VertexBuffer → ℕ
+content_seen None = 0
+content_seen (Some b) = b.vertex_count * b.vertex_stride
 
-abbrev pub held_seen : FoundIndices → ℕ
-held_seen Unseen = 0
-held_seen (Seen v) = held_count v
+abbrev pub held_seen : Option IndexView → ℕ
+held_seen None = 0
+held_seen (Some v) = held_count v
 
 -- the geometry of a view with both parts, as a hall's
 unfoldable pub full_shown : Sections → GeometryView → VertexBuffer → IndexView → FullGeometry

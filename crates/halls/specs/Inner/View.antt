@@ -1,74 +1,66 @@
 -- A geometry as numbers and places: what the code carries from its look at the blocks to its two passes. Private contracts speak of it; `ViewLaws` ties it to reading.
-use Rattle.std.specs.Prelude.{◌≡◌, cond, List, [], ◌∷◌, ◌++◌, ◌⊎◌, ℕ, ◌+◌, ◌*◌, ◌^◌, ◌<◌, eqb, length}
-use Rattle.std.proofs.Math.Option.{Option, none, some}
+use Rattle.std.specs.Prelude.{Option, None, Some, option_map, ◌≡◌, cond, List, [], ◌∷◌, ◌++◌, ℕ, ◌+◌, ◌*◌, ◌^◌, ◌<◌, eqb, length}
+use Rattle.std.specs.Option.{option_or, option_and_then, option_map_or}
 use Prim.{Unit}
 use Rattle.sections.specs.Address.{Sections, located, range_of, resolved}
-use Rattle.sections.specs.declared.lookup.Located.{Located}
-use Rattle.sections.specs.declared.lookup.Located.TheVariants.{System, Graphics, Nothing}
-use Rattle.vertices.specs.Buffer.{vertex_buffer_at, found_buffer}
-use Rattle.vertices.specs.declared.buffer.FoundBuffer.{FoundBuffer}
-use Rattle.vertices.specs.declared.buffer.FoundBuffer.TheVariants.{Buffer, NotFound}
+use Rattle.vertices.specs.Buffer.{vertex_buffer_at}
 use Rattle.vertices.specs.declared.buffer.VertexBuffer.{VertexBuffer}
-use Rattle.vertices.specs.declared.buffer.StoredDeclaration.{StoredDeclaration}
-use Rattle.vertices.specs.declared.buffer.StoredDeclaration.TheVariants.{Declaration, Absent}
+use Rattle.vertices.specs.declared.declaration.VertexDeclaration.{VertexDeclaration}
 use Rattle.vertices.specs.Runs.{numbers}
 use Rattle.halls.specs.List.{Indices, Geometry, Model, optional, geometry_record, declaration_record, vertices_record, indices_record}
 use Rattle.halls.specs.Blocks.{ModelBlock, model_block, GeometryBlock, geometry_block, IndexBlock, index_block}
-use Rattle.halls.specs.Reading.{or_empty, vertex_count_of, declaration_of, vertices_of, geometry_of, first, rest, list_at, mapping_of}
+use Rattle.halls.specs.Reading.{or_empty, vertex_count_of, vertices_of, geometry_of, first, rest, list_at, mapping_of}
 use Rattle.halls.specs.Inner.Measure.{list_bytes}
+use Rattle.halls.specs.declared.read.view.IndexWidth.{IndexWidth}
+use Rattle.halls.specs.declared.read.view.IndexWidth.TheVariants.{Two, Four}
+use Rattle.halls.specs.declared.read.view.IndexItems.{IndexItems}
 use Rattle.halls.specs.declared.read.view.IndexView.{IndexView}
-use Rattle.halls.specs.declared.read.view.FoundIndices.{FoundIndices}
-use Rattle.halls.specs.declared.read.view.FoundIndices.TheVariants.{Indices as Seen, Absent as Unseen}
 use Rattle.halls.specs.declared.read.view.GeometryView.{GeometryView}
 
 -- ---- indices
 
-abbrev pub seen_at : ℕ → ℕ → Located → FoundIndices
-seen_at width count Nothing = Unseen
-seen_at width count (System at) = Seen (record { count = count; width = width; place = System at })
-seen_at width count (Graphics at) = Seen (record { count = count; width = width; place = Graphics at })
+abbrev pub index_bytes : IndexWidth → ℕ
+index_bytes Two = 2
+index_bytes Four = 4
 
-unfoldable pub view_at : Sections → ℕ → ℕ → ℕ → FoundIndices
-view_at s width count pointer = cond (eqb pointer 0) Unseen (cond (eqb count 0) Unseen (seen_at width count (located s pointer (count * width))))
+unfoldable pub view_at : Sections → IndexWidth → ℕ → ℕ → Option IndexItems
+view_at s width count pointer =
+    cond (eqb pointer 0) None (cond (eqb count 0) None (option_map (λ at. record { width = width; place = at }) (located s pointer (count * index_bytes width))))
 
-unfoldable pub sized_view : Sections → ℕ → ℕ → ℕ → FoundIndices
-sized_view s size count pointer = cond (eqb size 2) (view_at s 2 count pointer) (cond (eqb size 4) (view_at s 4 count pointer) Unseen)
-
-abbrev pub or_view : FoundIndices → IndexView → IndexView
-or_view Unseen w = w
-or_view (Seen v) w = v
+unfoldable pub sized_view : Sections → ℕ → ℕ → ℕ → Option IndexItems
+sized_view s size count pointer = cond (eqb size 2) (view_at s Two count pointer) (cond (eqb size 4) (view_at s Four count pointer) None)
 
 -- the block's two forms, else its count with no indices
 unfoldable pub block_view : Sections → IndexBlock → IndexView
-block_view s b =
-    or_view (view_at s 2 b.count b.legacy) (or_view (sized_view s b.size b.count b.sized) (record { count = b.count; width = 0; place = Nothing }))
+block_view s b = record { count = b.count; items = option_or (view_at s Two b.count b.legacy) (sized_view s b.size b.count b.sized) }
 
-abbrev pub index_view_in : Sections → Option (List ℕ) → FoundIndices
-index_view_in s none = Unseen
-index_view_in s (some raw) = Seen (block_view s (index_block raw))
+abbrev pub index_view_in : Sections → Option (List ℕ) → Option IndexView
+index_view_in s o = option_map (λ raw. block_view s (index_block raw)) o
 
 -- the indices of a view whose bytes are these
 unfoldable pub indices_in : IndexView → List ℕ → Indices
-indices_in v b = record { count = v.count; items = cond (eqb v.width 0) [] (numbers v.width v.count b) }
+indices_in v b = record { count = v.count; items = option_map_or (λ (i : IndexItems). numbers (index_bytes i.width) v.count b) v.items [] }
 
--- the indices at a view's place
+-- the bytes at a view's place
+abbrev pub bytes_seen : Sections → IndexView → List ℕ
+bytes_seen s v = or_empty (option_and_then (λ (i : IndexItems). range_of s i.place (v.count * index_bytes i.width)) v.items)
+
+-- the indices there
 abbrev pub indices_seen : Sections → IndexView → Indices
-indices_seen s v = indices_in v (or_empty (range_of s v.place (v.count * v.width)))
+indices_seen s v = indices_in v (bytes_seen s v)
 
 abbrev pub held_count : IndexView → ℕ
-held_count v = cond (eqb v.width 0) 0 v.count
+held_count v = option_map_or (λ (i : IndexItems). v.count) v.items 0
 
--- these are the bytes of a view, of one of the widths that there are
+abbrev pub held_bytes : IndexView → ℕ
+held_bytes v = option_map_or (λ (i : IndexItems). v.count * index_bytes i.width) v.items 0
+
+-- these are the bytes of a view
 pub record HeldIn (v : IndexView) (b : List ℕ) : Type 0 where
-  pub width : (v.width ≡ 0) ⊎ ((v.width ≡ 2) ⊎ (v.width ≡ 4))
-  pub long : length b ≡ v.count * v.width
+  pub long : length b ≡ held_bytes v
   pub few : length b < 2 ^ 30
 
 -- ---- a geometry
-
-abbrev pub buffer_in : FoundBuffer → Option VertexBuffer
-buffer_in NotFound = none
-buffer_in (Buffer b) = some b
 
 unfoldable pub view_with : Sections → ℕ → GeometryBlock → Option VertexBuffer → GeometryView
 view_with s shader b buffer = record {
@@ -77,7 +69,7 @@ view_with s shader b buffer = record {
   triangle_count = b.triangles;
   vertex_count = vertex_count_of b.vertices buffer;
   stride = b.stride;
-  buffer = found_buffer buffer;
+  buffer = buffer;
   indices = index_view_in s (resolved s b.index_block 0x60);
 }
 
@@ -92,48 +84,52 @@ numbers_seen v = record {
   triangle_count = v.triangle_count;
   vertex_count = v.vertex_count;
   stride = v.stride;
-  declaration = none;
-  vertices = none;
-  indices = none;
+  declaration = None;
+  vertices = None;
+  indices = None;
 }
 
 -- ---- that its places hold what it says
 
-abbrev pub BufferHeld : Sections → FoundBuffer → Type 0
-BufferHeld s NotFound = Unit {0}
-BufferHeld s (Buffer b) = (length (vertices_of s b).content ≡ b.vertex_count * b.vertex_stride) × (length (vertices_of s b).content < 2 ^ 31)
+abbrev pub BufferHeld : Sections → Option VertexBuffer → Type 0
+BufferHeld s None = Unit {0}
+BufferHeld s (Some b) = (length (vertices_of s b).content ≡ b.vertex_count * b.vertex_stride) × (length (vertices_of s b).content < 2 ^ 31)
 
-abbrev pub IndicesHeld : Sections → FoundIndices → Type 0
-IndicesHeld s Unseen = Unit {0}
-IndicesHeld s (Seen v) = HeldIn v (or_empty (range_of s v.place (v.count * v.width)))
+abbrev pub IndicesHeld : Sections → Option IndexView → Type 0
+IndicesHeld s None = Unit {0}
+IndicesHeld s (Some v) = HeldIn v (bytes_seen s v)
+
+pub record ViewHeld (s : Sections) (v : GeometryView) : Type 0 where
+  pub buffer : BufferHeld s v.buffer
+  pub indices : IndicesHeld s v.indices
 
 -- ---- the bytes of its records
 
-abbrev pub stored_record : StoredDeclaration → List ℕ
-stored_record d = optional declaration_record (declaration_of d)
+abbrev pub stored_record : Option VertexDeclaration → List ℕ
+stored_record d = optional declaration_record d
 
-abbrev pub buffer_records : Sections → FoundBuffer → List ℕ
-buffer_records s NotFound = []
-buffer_records s (Buffer b) = stored_record b.declaration ++ vertices_record (vertices_of s b)
+abbrev pub buffer_records : Sections → Option VertexBuffer → List ℕ
+buffer_records s None = []
+buffer_records s (Some b) = stored_record b.declaration ++ vertices_record (vertices_of s b)
 
-abbrev pub index_record : Sections → FoundIndices → List ℕ
-index_record s Unseen = []
-index_record s (Seen v) = indices_record (indices_seen s v)
+abbrev pub index_record : Sections → Option IndexView → List ℕ
+index_record s None = []
+index_record s (Some v) = indices_record (indices_seen s v)
 
 abbrev pub view_records : Sections → GeometryView → List ℕ
 view_records s v = geometry_record (numbers_seen v) ++ (buffer_records s v.buffer ++ index_record s v.indices)
 
-abbrev pub declaration_length : StoredDeclaration → ℕ
-declaration_length Absent = 0
-declaration_length (Declaration d) = 22
+abbrev pub declaration_length : Option VertexDeclaration → ℕ
+declaration_length None = 0
+declaration_length (Some d) = 22
 
-abbrev pub buffer_length : FoundBuffer → ℕ
-buffer_length NotFound = 0
-buffer_length (Buffer b) = declaration_length b.declaration + (13 + b.vertex_count * b.vertex_stride)
+abbrev pub buffer_length : Option VertexBuffer → ℕ
+buffer_length None = 0
+buffer_length (Some b) = declaration_length b.declaration + (13 + b.vertex_count * b.vertex_stride)
 
-abbrev pub indices_length : FoundIndices → ℕ
-indices_length Unseen = 0
-indices_length (Seen v) = 10 + 4 * held_count v
+abbrev pub indices_length : Option IndexView → ℕ
+indices_length None = 0
+indices_length (Some v) = 10 + 4 * held_count v
 
 unfoldable pub view_length : GeometryView → ℕ
 view_length v = 20 + (buffer_length v.buffer + indices_length v.indices)
@@ -142,8 +138,8 @@ view_length v = 20 + (buffer_length v.buffer + indices_length v.indices)
 
 -- one geometry, or none where its block does not resolve
 abbrev pub geometry_in : Sections → ℕ → Option (List ℕ) → List Geometry
-geometry_in s shader none = []
-geometry_in s shader (some b) = geometry_of s shader (geometry_block b) ∷ []
+geometry_in s shader None = []
+geometry_in s shader (Some b) = geometry_of s shader (geometry_block b) ∷ []
 
 -- the geometries behind these pointers, each with the mapping's entry at its position
 unfoldable pub geometries_at : Sections → List ℕ → List ℕ → List Geometry
@@ -166,8 +162,8 @@ model_of s b = record {
 
 -- one model, or none where its block does not resolve
 abbrev pub model_in : Sections → Option (List ℕ) → List Model
-model_in s none = []
-model_in s (some b) = model_of s (model_block b) ∷ []
+model_in s None = []
+model_in s (Some b) = model_of s (model_block b) ∷ []
 
 -- the models behind these pointers
 unfoldable pub models_at : Sections → List ℕ → List Model

@@ -1,4 +1,5 @@
 -- One pass over a hall's list: what stands at the front of the bytes left, what the records behind come to, and what a walk knows of those that it has passed. Private contracts speak of this; `TallyLaws` ties it to the verdict.
+use Rattle.std.specs.Prelude.{Option, Some, None, Result, MatchResult}
 use Rattle.std.specs.Prelude.{◌≡◌, Bool, true, false, cond, ◌&&◌, List, [], ◌∷◌, ◌⊎◌, ℕ, ◌+◌, ◌*◌, ◌-◌, ◌/◌, ◌≤◌, ◌<◌, min, eqb, leb, length, take, drop}
 use Rattle.vertices.specs.Runs.{numbers}
 use Rattle.halls.specs.Every.{every}
@@ -7,24 +8,24 @@ use Rattle.halls.specs.Hall.{FullGeometry, Hall}
 use Rattle.halls.specs.ImageSize.{image_size}
 use Rattle.halls.specs.Fronts.{entries_at, content_at, held_at}
 use Rattle.halls.specs.Inner.Judging.{lowest_of, has_model, has_geometry}
-use Rattle.halls.specs.Inner.Order.{passed, too_large, failing, verdict_of}
-use Rattle.halls.specs.Inner.Seeking.{Marked, Near, Nearest}
+use Rattle.halls.specs.Inner.Order.{passed, too_large, failing}
+use Rattle.halls.specs.Inner.Seeking.{Marked, Nearest}
 use Rattle.halls.specs.Parsing.{whole, ordered, exact, mapping_count, body_at, geometry_in, models_in, parse, structured}
 use Rattle.halls.specs.Records.{Record, records}
-use Rattle.halls.specs.declared.check.check.Verdict.TheVariants.{Sound}
+use Rattle.halls.specs.Verdict.{Verdict, Sound, Fails}
+use Rattle.halls.specs.declared.answer.Refusal.{Refusal}
 use Rattle.halls.specs.declared.format.front.Front.{Front}
-use Rattle.halls.specs.declared.format.front.Front.TheVariants.{Model, Geometry, Broken}
+use Rattle.halls.specs.declared.format.front.Front.TheVariants.{Model, Geometry}
 use Rattle.halls.specs.declared.check.pass.Tally.{Tally}
 use Rattle.halls.specs.declared.check.pass.Mark.{Mark}
 use Rattle.halls.specs.declared.check.pass.Summary.{Summary}
 use Rattle.halls.specs.declared.check.pass.Findings.{Findings}
-use Rattle.halls.specs.declared.check.pass.Turn.{Turn}
-use Rattle.halls.specs.declared.check.pass.Turn.TheVariants.{On, Stop}
 
 -- ---- at the front
 
-unfoldable pub front_of : List ℕ → Front
-front_of s = cond (has_model s) (Model (entries_at s)) (cond (has_geometry s) (Geometry (content_at s) (held_at s)) Broken)
+-- a model with the entries of its mapping, a geometry, or neither
+unfoldable pub front_of : List ℕ → Option Front
+front_of s = cond (has_model s) (Some (Model (entries_at s))) (cond (has_geometry s) (Some (Geometry (record { content = content_at s; held = held_at s }))) None)
 
 -- ---- the records behind
 
@@ -115,9 +116,9 @@ pub record Onward (t u : Tally) : Type 0 where
   pub same_or-next : (u.models ≡ t.models) ⊎ ((u.models ≡ t.models + 1) × (u.first ≡ u.geometries))
 
 -- and one turn on: further, or not a hall's records
-unfoldable pub Turned : List ℕ → Tally → Turn → Type 0
-Turned s t (On u) = Walked s u × Onward t u
-Turned s t Stop = structured s ≡ false
+unfoldable pub Turned : List ℕ → Tally → Option Tally → Type 0
+Turned s t (Some u) = Walked s u × Onward t u
+Turned s t None = structured s ≡ false
 
 -- ---- what it found
 
@@ -125,32 +126,30 @@ Turned s t Stop = structured s ≡ false
 unfoldable pub limits_lowest : ℕ → ℕ → ℕ → ℕ
 limits_lowest models geometries parts = cond (leb models 256 && leb geometries 16384) (failing too_large (leb (1 + units (8 * models) + parts) 4194304)) 13
 
-abbrev pub summary_of : ℕ → Tally → Summary
-summary_of lowest t = record { lowest = lowest; models = t.models; geometries = t.geometries; units = t.units }
+abbrev pub summary_of : Tally → Summary
+summary_of t = record { models = t.models; geometries = t.geometries; units = t.units }
 
-abbrev pub findings_of : ℕ → Tally → Mark → Findings
-findings_of lowest t nearest = record { summary = summary_of lowest t; nearest = nearest }
-
--- of a sound hall a summary also gives the counts and the image's size
+-- a summary gives a hall's counts and its image's size
 pub record Counted (h : Hall) (r : Summary) : Type 0 where
   pub models : r.models ≡ length h
   pub geometries : r.geometries ≡ geometry_count h
   pub image : 16 * (1 + units (8 * r.models) + r.units) ≡ image_size h
 
-pub record Examined (s : List ℕ) (r : Summary) : Type 0 where
-  pub verdict : verdict_of r.lowest ≡ judged (parse s)
-  pub counted : judged (parse s) ≡ Sound → Counted (models_in (records s)) r
+-- of a whole list these, with the place of the pass that is nearest to geometry g of model m
+pub record Found (s : List ℕ) (m g : ℕ) (r : Findings) : Type 0 where
+  pub counted : Counted (models_in (records s)) r.summary
+  pub nearest : Nearest s m g r.nearest
 
--- with the place of the pass that is nearest to geometry g of model m
-pub record Surveyed (s : List ℕ) (m g : ℕ) (r : Findings) : Type 0 where
-  pub examined : Examined s r.summary
-  pub nearest : Near s m g r.summary.models r.nearest
+-- what is found of bytes whose checks come to a verdict, or the refusal of the first that fails
+abbrev pub WhereSound : {A : Type 0} → Verdict → (A → Type 0) → Result A Refusal → Type 0
+WhereSound v P r = MatchResult r (λ x. (v ≡ Sound) × P x) (λ e. (v ≡ Fails e.check) × (e.needed ≡ 0))
+
+abbrev pub Surveyed : List ℕ → ℕ → ℕ → Result Findings Refusal → Type 0
+Surveyed s m g r = WhereSound (judged (parse s)) (Found s m g) r
 
 -- the same of the first n bytes of a buffer
-pub record ExaminedFirst (b : List ℕ) (n : ℕ) (r : Summary) : Type 0 where
-  pub verdict : verdict_of r.lowest ≡ hall_verdict b n
-  pub counted : hall_verdict b n ≡ Sound → Counted (models_in (records (take n b))) r
+abbrev pub SurveyedFirst : List ℕ → ℕ → ℕ → ℕ → Result Findings Refusal → Type 0
+SurveyedFirst b n m g r = WhereSound (hall_verdict b n) (Found (take n b) m g) r
 
-pub record SurveyedFirst (b : List ℕ) (n m g : ℕ) (r : Findings) : Type 0 where
-  pub examined : ExaminedFirst b n r.summary
-  pub nearest : hall_verdict b n ≡ Sound → Nearest (take n b) m g r.nearest
+abbrev pub ExaminedFirst : List ℕ → ℕ → Result Summary Refusal → Type 0
+ExaminedFirst b n r = WhereSound (hall_verdict b n) (Counted (models_in (records (take n b)))) r

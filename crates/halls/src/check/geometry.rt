@@ -4,10 +4,12 @@ ghost use Rattle.halls.specs.Checks.{strides_agree, vertex_counts_agree, index_c
 ghost use Rattle.halls.specs.Fronts.{GeometryFront, front_geometry};
 ghost use Rattle.halls.specs.Inner.Judging.{HeadJudged, HeadTested, head_of, inside_stride, lowest_of};
 
+use crate::check::lists::FourByteIndices;
 use crate::check::order::PASSED;
 use crate::check::scan::triangles_lowest;
+use crate::format::front::GeometryShape;
 use sections::{u8_le, u16_le, u32_le};
-use vertices::{FoundComponent, VertexDeclaration, read_declaration};
+use vertices::{VertexDeclaration, read_declaration};
 
 // The numbers of a geometry's four records, and how many indices it holds.
 #[derive(Clone, Copy)]
@@ -26,22 +28,25 @@ pub struct GeometryHead {
 }
 
 // The rank of the first check that the geometry at the front fails, or PASSED.
-pub fn geometry_lowest(front: &[u8], content: usize, held: usize) -> u8
-    requires { GeometryFront front.now content held }
+pub fn geometry_lowest(front: &[u8], shape: GeometryShape) -> u8
+    requires { GeometryFront front.now shape.content shape.held }
     ensures { result ≡ lowest_of (front_geometry front.now) }
 {
-    let head = geometry_head(front, content, held);
+    let head = geometry_head(front, shape);
     let lowest = head_lowest(head);
     if lowest != PASSED {
         return lowest;
     }
     let triangles = head.triangle_count as usize;
-    triangles_lowest(front, 65 + content, triangles, head.vertices_count)
+    let indices = FourByteIndices {
+        bytes: &front[65 + shape.content..],
+    };
+    triangles_lowest(indices, triangles, head.vertices_count)
 }
 
-// `content` bytes of vertices and `held` indices are known to be whole.
-pub fn geometry_head(front: &[u8], content: usize, held: usize) -> GeometryHead
-    requires { GeometryFront front.now content held }
+// Its vertex bytes and indices are known to be whole.
+pub fn geometry_head(front: &[u8], shape: GeometryShape) -> GeometryHead
+    requires { GeometryFront front.now shape.content shape.held }
     ensures { result ≡ head_of (front_geometry front.now) }
 {
     GeometryHead {
@@ -54,8 +59,8 @@ pub fn geometry_head(front: &[u8], content: usize, held: usize) -> GeometryHead
         layout: u8_le(front, 48),
         vertices_stride: u16_le(front, 49),
         vertices_count: u32_le(front, 51),
-        indices_count: u32_le(front, 61 + content),
-        held,
+        indices_count: u32_le(front, 61 + shape.content),
+        held: shape.held,
     }
 }
 
@@ -95,13 +100,13 @@ pub fn components_inside(declaration: VertexDeclaration, stride: u16) -> bool
     ensures { result ≡ inside_stride declaration stride }
 {
     match declaration.component(0) {
-        FoundComponent::Component(position) => {
+        Some(position) => {
             if position.size == 0 {
                 return false;
             }
             declaration.size_in_bytes() <= stride
         }
-        FoundComponent::Missing => false,
+        None => false,
     }
 }
 

@@ -1,14 +1,15 @@
 // One pass over a hall's list: a record that is not a hall's ends it, otherwise the lowest rank of a check that fails is carried.
-ghost use Rattle.std.specs.Prelude.{◌≡◌, ◌+◌, ◌*◌, ◌-◌, ◌<◌, ◌≤◌, eqb, length, drop};
+ghost use Rattle.std.specs.Prelude.{◌≡◌, Some, ◌+◌, ◌*◌, ◌-◌, ◌<◌, ◌≤◌, eqb, length, drop};
 ghost use Rattle.vertices.specs.Runs.{numbers};
 ghost use Rattle.halls.specs.Inner.Order.{failing};
-ghost use Rattle.halls.specs.Inner.Walk.{front_of, Walked, Turned, Surveyed, start_tally, mark_of, summary_of, findings_of, limits_lowest, leads};
+ghost use Rattle.halls.specs.Inner.Walk.{front_of, Walked, Turned, Surveyed, start_tally, mark_of, summary_of, limits_lowest, leads};
 ghost use Rattle.halls.specs.Inner.Seeking.{nearer_mark};
 ghost use Rattle.halls.specs.declared.format.front.Front.TheVariants.{Model, Geometry};
 
+use crate::answer::Refusal;
 use crate::check::geometry::geometry_lowest;
-use crate::check::order::{PASSED, TOO_LARGE, lower};
-use crate::format::front::{Front, front_of};
+use crate::check::order::{PASSED, TOO_LARGE, verdict_of};
+use crate::format::front::{Front, GeometryShape, front_of};
 use sections::u16_le;
 
 // What the records before `at` come to. `lowest` is the rank of the first check that failed, or PASSED. `units` is their part of the image, 16 bytes
@@ -27,33 +28,24 @@ pub struct Tally {
     pub left: usize,
 }
 
-#[derive(Clone, Copy)]
-pub enum Turn {
-    On(Tally),
-    Stop,
-}
-
-// The model or geometry at t's place passed, or a record that is not a hall's.
-fn next_turn(list: &[u8], t: Tally) -> Turn
+// The model or geometry at t's place passed; None at a record that is not a hall's.
+fn next_turn(list: &[u8], t: Tally) -> Option<Tally>
     requires { (Walked list.now t) × (t.at < length list.now) }
     ensures { Turned list.now t result }
 {
-    let at = t.at;
-    let f = front_of(&list[at..]);
-    match f {
-        Front::Broken => Turn::Stop,
-        Front::Model(entries) => pass_model(list, t, entries),
-        Front::Geometry(content, held) => pass_geometry(list, t, content, held),
+    match front_of(&list[t.at..])? {
+        Front::Model(entries) => Some(pass_model(list, t, entries)),
+        Front::Geometry(shape) => pass_geometry(list, t, shape),
     }
 }
 
 // Its part of the image: its block, and for each entry a pointer and a two-byte number.
-fn pass_model(list: &[u8], t: Tally, entries: usize) -> Turn
-    requires { (Walked list.now t) × (Model entries ≡ front_of (drop t.at list.now)) × (t.at + 12 + 2 * entries ≤ length list.now) }
-    ensures { Turned list.now t result }
+fn pass_model(list: &[u8], t: Tally, entries: usize) -> Tally
+    requires { (Walked list.now t) × (Some (Model entries) ≡ front_of (drop t.at list.now)) × (t.at + 12 + 2 * entries ≤ length list.now) }
+    ensures { Turned list.now t (Some result) }
 {
-    let lowest = lower(t.lowest, unanswered(t.left));
-    Turn::On(Tally {
+    let lowest = t.lowest.min(unanswered(t.left));
+    Tally {
         at: t.at + 12 + 2 * entries,
         lowest,
         models: t.models + 1,
@@ -63,32 +55,32 @@ fn pass_model(list: &[u8], t: Tally, entries: usize) -> Turn
         first: t.geometries,
         mapping: t.at + 12,
         left: entries,
-    })
+    }
 }
 
 // A geometry before any model is not a hall's. Its part of the image: blocks and declaration, vertex bytes, two-byte indices.
-fn pass_geometry(list: &[u8], t: Tally, content: usize, held: usize) -> Turn
-    requires { (Walked list.now t) × (Geometry content held ≡ front_of (drop t.at list.now)) × (t.at + 65 + content + 4 * held ≤ length list.now) }
+fn pass_geometry(list: &[u8], t: Tally, shape: GeometryShape) -> Option<Tally>
+    requires { (Walked list.now t) × (Some (Geometry shape) ≡ front_of (drop t.at list.now)) × (t.at + 65 + shape.content + 4 * shape.held ≤ length list.now) }
     ensures { Turned list.now t result }
 {
     if t.models == 0 {
-        return Turn::Stop;
+        return None;
     }
     let at = t.at;
-    let found = geometry_lowest(&list[at..], content, held);
+    let found = geometry_lowest(&list[at..], shape);
     let shader = u16_le(list, at + 6);
     let answer = answered(list, t.mapping, t.left, shader);
-    let lowest = lower(t.lowest, lower(answer, found));
-    Turn::On(Tally {
-        at: at + 65 + content + 4 * held,
+    let lowest = t.lowest.min(answer.min(found));
+    Some(Tally {
+        at: at + 65 + shape.content + 4 * shape.held,
         lowest,
         models: t.models,
         geometries: t.geometries + 1,
-        units: t.units + 25 + (content + 15) / 16 + (held + 7) / 8,
+        units: t.units + 25 + (shape.content + 15) / 16 + (shape.held + 7) / 8,
         model: t.model,
         first: t.first,
         mapping: t.mapping + 2,
-        left: one_less(t.left),
+        left: t.left.saturating_sub(1),
     })
 }
 
@@ -116,19 +108,9 @@ fn unanswered(left: usize) -> u8
     12
 }
 
-fn one_less(n: usize) -> usize
-    ensures { result ≡ n - 1 }
-{
-    if n == 0 {
-        return 0;
-    }
-    n - 1
-}
-
-// What a whole list comes to. `lowest` is the rank of the first check that fails, or PASSED; `units` leaves header and model pointers out.
+// What a whole list comes to. `units` leaves header and model pointers out.
 #[derive(Clone, Copy)]
 pub struct Summary {
-    pub lowest: u8,
     pub models: usize,
     pub geometries: usize,
     pub units: usize,
@@ -154,28 +136,24 @@ pub struct Findings {
 pub const LAST: u64 = 18446744073709551615;
 
 // The only loop that takes turns: with a second one the compiler no longer makes `next_turn` part of it, and the check takes nearly twice the time.
-pub fn survey(list: &[u8], model: u64, geometry: u64) -> Findings
+pub fn survey(list: &[u8], model: u64, geometry: u64) -> Result<Findings, Refusal>
     ensures { Surveyed list.now model geometry result }
 {
     let mut t = start();
     let mut nearest = mark_of(t);
     while t.at < list.len() {
-        match next_turn(list, t) {
-            Turn::Stop => {
-                return surveyed(11, t, nearest);
-            }
-            Turn::On(u) => {
-                nearest = nearer(nearest, mark_of(u), model, geometry);
-                t = u;
-            }
-        }
+        let Some(u) = next_turn(list, t) else {
+            return Err(Refusal::by(11));
+        };
+        nearest = nearer(nearest, mark_of(u), model, geometry);
+        t = u;
     }
-    let lowest = lower(t.lowest, unanswered(t.left));
-    surveyed(
-        lower(lowest, limits_lowest(t.models, t.geometries, t.units)),
-        t,
+    let lowest = t.lowest.min(unanswered(t.left));
+    verdict_of(lowest.min(limits_lowest(t.models, t.geometries, t.units)))?;
+    Ok(Findings {
+        summary: summary_of(t),
         nearest,
-    )
+    })
 }
 
 // The later of two places, unless it is behind the geometry of that number of its model, or behind the model that is sought.
@@ -204,15 +182,6 @@ fn mark_of(t: Tally) -> Mark
     }
 }
 
-fn surveyed(lowest: u8, t: Tally, nearest: Mark) -> Findings
-    ensures { result ≡ findings_of lowest t nearest }
-{
-    Findings {
-        summary: summary_of(lowest, t),
-        nearest,
-    }
-}
-
 fn start() -> Tally
     ensures { result ≡ start_tally }
 {
@@ -229,11 +198,10 @@ fn start() -> Tally
     }
 }
 
-fn summary_of(lowest: u8, t: Tally) -> Summary
-    ensures { result ≡ summary_of lowest t }
+fn summary_of(t: Tally) -> Summary
+    ensures { result ≡ summary_of t }
 {
     Summary {
-        lowest,
         models: t.models,
         geometries: t.geometries,
         units: t.units,

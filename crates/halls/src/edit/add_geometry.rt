@@ -4,27 +4,37 @@ ghost use Rattle.sections.specs.Edit.{part, overwrite};
 ghost use Rattle.sections.specs.Le.{bytes};
 ghost use Rattle.halls.specs.Calls.{given_geometry, add_geometry};
 ghost use Rattle.halls.specs.Hall.{listed_geometry};
-ghost use Rattle.halls.specs.Inner.Judging.{given_lowest};
+ghost use Rattle.halls.specs.Inner.Judging.{given_in, given_lowest};
 ghost use Rattle.halls.specs.List.{write_geometry};
 ghost use Rattle.halls.specs.Inner.Walk.{model_units, geometry_units, Counted};
 ghost use Rattle.halls.specs.Checks.{hall_verdict};
 ghost use Rattle.halls.specs.Parsing.{models_in};
-ghost use Rattle.halls.specs.Places.{model_place, found_model};
+ghost use Rattle.halls.specs.Places.{model_place};
 ghost use Rattle.halls.specs.Records.{records};
 ghost use Rattle.halls.specs.Step.{Stepped};
-ghost use Rattle.halls.specs.declared.check.check.Verdict.TheVariants.{Sound};
-ghost use Rattle.halls.specs.declared.check.find.FoundModel.TheVariants.{At};
+ghost use Rattle.halls.specs.Verdict.{Sound};
 
-use crate::answer::{Answer, refused};
+use crate::answer::Refusal;
 use crate::check::check::survey_first;
 use crate::check::geometry::components_inside;
-use crate::check::order::{PASSED, lower, refused_by};
+use crate::check::order::verdict_of;
 use crate::check::pass::{LAST, Summary, limits_lowest};
 use crate::check::words::lent_triangles_lowest;
 use crate::format::record::{put_declaration, put_geometry, put_lent_indices, put_vertex_bytes};
-use crate::read::view::{FoundIndices, GeometryView};
+use crate::read::view::GeometryView;
 use sections::{copy_within, put_u16_le, put_u32_le, u32_le};
-use vertices::{FoundBuffer, VertexDeclaration};
+use vertices::VertexDeclaration;
+
+// A geometry as a caller gives it: `content` are the bytes of `count` vertices.
+#[derive(Clone, Copy)]
+pub struct GivenGeometry<'a> {
+    pub shader: u16,
+    pub declaration: VertexDeclaration,
+    pub stride: u16,
+    pub count: u32,
+    pub content: &'a [u8],
+    pub indices: &'a [u32],
+}
 
 // `content` are the bytes of `count` vertices.
 pub fn add_geometry(
@@ -36,28 +46,22 @@ pub fn add_geometry(
     count: u32,
     content: &[u8],
     indices: &[u32],
-) -> Answer
+) -> Result<u64, Refusal>
     ensures { Stepped (add_geometry (record { shader = shader; declaration = declaration; stride = stride; count = count; content = content.now; indices = indices.now })) hall.old n result hall.new }
 {
-    let found = survey_first(hall, n, LAST, 0);
-    if found.summary.lowest < PASSED {
-        return refused_by(found.summary.lowest);
-    }
+    let found = survey_first(hall, n, LAST, 0)?;
     if found.summary.models == 0 {
-        return refused(21, 0);
+        return Err(Refusal::by(21));
     }
-    append_geometry(
-        hall,
-        n,
-        found.nearest.model,
-        found.summary,
+    let given = GivenGeometry {
         shader,
         declaration,
         stride,
         count,
         content,
         indices,
-    )
+    };
+    append_geometry(hall, n, found.nearest.model, found.summary, given)
 }
 
 // To the last model, whose record begins at `place`.
@@ -66,55 +70,38 @@ fn append_geometry(
     n: usize,
     place: usize,
     found: Summary,
-    shader: u16,
-    declaration: VertexDeclaration,
-    stride: u16,
-    count: u32,
-    content: &[u8],
-    indices: &[u32],
-) -> Answer
-    requires { (hall_verdict hall.old n ≡ Sound) × (Counted (models_in (records (take n hall.old))) found) × (found_model (model_place (models_in (records (take n hall.old))) (found.models - 1)) ≡ At place) }
-    ensures { Stepped (add_geometry (record { shader = shader; declaration = declaration; stride = stride; count = count; content = content.now; indices = indices.now })) hall.old n result hall.new }
+    given: GivenGeometry,
+) -> Result<u64, Refusal>
+    requires { (hall_verdict hall.old n ≡ Sound) × (Counted (models_in (records (take n hall.old))) found) × ((model_place (models_in (records (take n hall.old))) (found.models - 1)) ≡ Some place) }
+    ensures { Stepped (add_geometry (given_in given.entry)) hall.old n result hall.new }
 {
     let size = u32_le(hall, place);
-    let added = added_units((size as usize - 6) / 2, content.len(), indices.len());
+    let entries = (size as usize - 6) / 2;
+    let added = added_units(entries, given.content.len(), given.indices.len());
     let limits = limits_lowest(found.models, found.geometries + 1, found.units + added);
-    let lowest = lower(
-        given_lowest(declaration, stride, count, content, indices),
-        limits,
-    );
-    if lowest < PASSED {
-        return refused_by(lowest);
-    }
-    let needed = n as u64 + 67 + content.len() as u64 + 4 * indices.len() as u64;
+    verdict_of(given_lowest(given).min(limits))?;
+    let needed = n as u64 + 67 + given.content.len() as u64 + 4 * given.indices.len() as u64;
     if (hall.len() as u64) < needed {
-        return refused(24, needed);
+        return Err(Refusal { check: 24, needed });
     }
-    insert_entry(hall, n, place + 6 + size as usize, shader);
+    insert_entry(hall, n, place + 6 + size as usize, given.shader);
     put_u32_le(hall, place, size + 2);
-    put_given(
-        hall,
-        n + 2,
-        shader,
+    put_given(hall, n + 2, given);
+    Ok(needed)
+}
+
+// The rank of the first of checks 11, 14 to 18 and 27 that the given geometry fails, or PASSED. Before them its lengths need not fit the numbers of a head.
+fn given_lowest(given: GivenGeometry) -> u8
+    ensures { result ≡ given_lowest (given_geometry (given_in given.entry)) }
+{
+    let GivenGeometry {
         declaration,
         stride,
         count,
         content,
         indices,
-    );
-    Answer::Accepted(needed)
-}
-
-// The rank of the first of checks 11, 14 to 18 and 27 that the given geometry fails, or PASSED.
-fn given_lowest(
-    declaration: VertexDeclaration,
-    stride: u16,
-    count: u32,
-    content: &[u8],
-    indices: &[u32],
-) -> u8
-    ensures { result ≡ given_lowest (given_geometry (record { shader = 0; declaration = declaration; stride = stride; count = count; content = content.now; indices = indices.now })) }
-{
+        ..
+    } = given;
     if content.len() as u64 != count as u64 * stride as u64 {
         return 11;
     }
@@ -159,30 +146,22 @@ fn insert_entry(hall: &mut [u8], n: usize, entry: usize, shader: u16)
 }
 
 // The four records.
-fn put_given(
-    out: &mut [u8],
-    at: usize,
-    shader: u16,
-    declaration: VertexDeclaration,
-    stride: u16,
-    count: u32,
-    content: &[u8],
-    indices: &[u32],
-)
-    requires { (at + (65 + length content.now + 4 * length indices.now) ≤ length out.old) × (length content.now < 2 ^ 31) × (length indices.now < 2 ^ 29) × (count ≤ 65535) }
-    ensures { out.new ≡ overwrite out.old at (write_geometry (listed_geometry (given_geometry (record { shader = shader; declaration = declaration; stride = stride; count = count; content = content.now; indices = indices.now })))) }
+fn put_given(out: &mut [u8], at: usize, given: GivenGeometry)
+    requires { (at + (65 + length given.content.now + 4 * length given.indices.now) ≤ length out.old) × (length given.content.now < 2 ^ 31) × (length given.indices.now < 2 ^ 29) × (given.count ≤ 65535) }
+    ensures { out.new ≡ overwrite out.old at (write_geometry (listed_geometry (given_geometry (given_in given.entry)))) }
 {
     let numbers = GeometryView {
-        shader,
-        index_count: indices.len() as u32,
-        triangle_count: (indices.len() / 3) as u32,
-        vertex_count: count as u16,
-        stride,
-        buffer: FoundBuffer::NotFound,
-        indices: FoundIndices::Absent,
+        shader: given.shader,
+        index_count: given.indices.len() as u32,
+        triangle_count: (given.indices.len() / 3) as u32,
+        vertex_count: given.count as u16,
+        stride: given.stride,
+        buffer: None,
+        indices: None,
     };
+    let content = given.content;
     put_geometry(out, at, numbers);
-    put_declaration(out, at + 20, declaration);
-    put_vertex_bytes(out, at + 42, 0, stride, count, content);
-    put_lent_indices(out, at + 55 + content.len(), indices);
+    put_declaration(out, at + 20, given.declaration);
+    put_vertex_bytes(out, at + 42, 0, given.stride, given.count, content);
+    put_lent_indices(out, at + 55 + content.len(), given.indices);
 }

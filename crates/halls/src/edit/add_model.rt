@@ -6,38 +6,38 @@ ghost use Rattle.halls.specs.Parsing.{models_in};
 ghost use Rattle.halls.specs.Records.{records};
 ghost use Rattle.halls.specs.Step.{Stepped};
 ghost use Rattle.halls.specs.Inner.Walk.{Counted};
-ghost use Rattle.halls.specs.declared.check.check.Verdict.TheVariants.{Sound};
+ghost use Rattle.halls.specs.Verdict.{Sound};
 
-use crate::answer::{Answer, refused};
+use crate::answer::Refusal;
 use crate::check::check::examine_first;
-use crate::check::order::{PASSED, refused_by};
+use crate::check::order::verdict_of;
 use crate::check::pass::{Summary, limits_lowest};
 use crate::format::record::put_model_numbers;
 
 // A model without geometries.
-pub fn add_model(hall: &mut [u8], n: usize, binding: u32, mask: u16) -> Answer
+pub fn add_model(hall: &mut [u8], n: usize, binding: u32, mask: u16) -> Result<u64, Refusal>
     ensures { Stepped (add_model binding mask) hall.old n result hall.new }
 {
-    let found = examine_first(hall, n);
-    if found.lowest < PASSED {
-        return refused_by(found.lowest);
-    }
+    let found = examine_first(hall, n)?;
     append_model(hall, n, binding, mask, found)
 }
 
 // Of the result only checks 13, 19 and 24 can fail: the model adds its block to the image and 12 bytes to the list.
-fn append_model(hall: &mut [u8], n: usize, binding: u32, mask: u16, found: Summary) -> Answer
+fn append_model(
+    hall: &mut [u8],
+    n: usize,
+    binding: u32,
+    mask: u16,
+    found: Summary,
+) -> Result<u64, Refusal>
     requires { (hall_verdict hall.old n ≡ Sound) × (Counted (models_in (records (take n hall.old))) found) × (n ≤ length hall.old) × (found.models ≤ 256) × (found.units ≤ 4194304) }
     ensures { Stepped (add_model binding mask) hall.old n result hall.new }
 {
-    let lowest = limits_lowest(found.models + 1, found.geometries, found.units + 3);
-    if lowest < PASSED {
-        return refused_by(lowest);
-    }
+    verdict_of(limits_lowest(found.models + 1, found.geometries, found.units + 3))?;
     let needed = n as u64 + 12;
     if hall.len() - n < 12 {
-        return refused(24, needed);
+        return Err(Refusal { check: 24, needed });
     }
     put_model_numbers(hall, n, 6, binding, mask);
-    Answer::Accepted(needed)
+    Ok(needed)
 }

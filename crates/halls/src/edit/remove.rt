@@ -1,6 +1,5 @@
 // A model or a geometry taken out of a hall: what stands behind it moves down, and the bytes that this frees become zero.
 ghost use Rattle.std.specs.Prelude.{◌≡◌, ◌++◌, ◌≤◌, length, take, drop};
-ghost use Rattle.std.proofs.Math.Option.{some};
 ghost use Rattle.halls.specs.Calls.{remove_model, remove_geometry};
 ghost use Rattle.halls.specs.Checks.{hall_verdict};
 ghost use Rattle.halls.specs.Inner.Seeking.{Nearest, last};
@@ -8,48 +7,47 @@ ghost use Rattle.halls.specs.Parsing.{models_in};
 ghost use Rattle.halls.specs.Places.{geometry_place};
 ghost use Rattle.halls.specs.Records.{records};
 ghost use Rattle.halls.specs.Step.{rewritten, Stepped};
-ghost use Rattle.halls.specs.declared.check.check.Verdict.TheVariants.{Sound};
+ghost use Rattle.halls.specs.Verdict.{Sound};
 
-use crate::answer::{Answer, refused};
+use crate::answer::Refusal;
 use crate::check::check::survey_first;
-use crate::check::find::{FoundGeometry, GeometryPlace, geometry_at, seek};
-use crate::check::order::{PASSED, refused_by};
+use crate::check::find::{GeometryPlace, geometry_at, seek};
 use crate::check::pass::{LAST, Mark};
+use crate::format::kind::RecordKind;
 use sections::{copy_within, put_u32_le, u32_le, zero};
 
 // Takes a model with its geometries out of the hall of the first n bytes.
-pub fn remove_model(hall: &mut [u8], n: usize, model: u64) -> Answer
+pub fn remove_model(hall: &mut [u8], n: usize, model: u64) -> Result<u64, Refusal>
     ensures { Stepped (remove_model model) hall.old n result hall.new }
 {
-    let found = survey_first(hall, n, model, LAST);
-    if found.summary.lowest < PASSED {
-        return refused_by(found.summary.lowest);
-    }
+    let found = survey_first(hall, n, model, LAST)?;
     remove_model_in_hall(hall, n, model, found.nearest)
 }
 
 // In a sound hall. Removing keeps every check of a hall, so the result is not looked at.
-fn remove_model_in_hall(hall: &mut [u8], n: usize, model: u64, nearest: Mark) -> Answer
+fn remove_model_in_hall(
+    hall: &mut [u8],
+    n: usize,
+    model: u64,
+    nearest: Mark,
+) -> Result<u64, Refusal>
     requires { (hall_verdict hall.old n ≡ Sound) × (Nearest (take n hall.old) model last nearest) }
     ensures { Stepped (remove_model model) hall.old n result hall.new }
 {
     if nearest.models as u64 <= model {
-        return refused(21, 0);
+        return Err(Refusal::by(21));
     }
     let place = nearest.model;
-    let end = seek(&hall[..n], nearest.at, 1, 0);
+    let end = seek(&hall[..n], nearest.at, RecordKind::Model, 0);
     close_gap(hall, n, place, end);
-    Answer::Accepted((n - (end - place)) as u64)
+    Ok((n - (end - place)) as u64)
 }
 
 // Takes a geometry out of the hall of the first n bytes.
-pub fn remove_geometry(hall: &mut [u8], n: usize, model: u64, geometry: u64) -> Answer
+pub fn remove_geometry(hall: &mut [u8], n: usize, model: u64, geometry: u64) -> Result<u64, Refusal>
     ensures { Stepped (remove_geometry model geometry) hall.old n result hall.new }
 {
-    let found = survey_first(hall, n, model, geometry);
-    if found.summary.lowest < PASSED {
-        return refused_by(found.summary.lowest);
-    }
+    let found = survey_first(hall, n, model, geometry)?;
     remove_geometry_in_hall(hall, n, model, geometry, found.nearest)
 }
 
@@ -60,13 +58,13 @@ fn remove_geometry_in_hall(
     model: u64,
     geometry: u64,
     nearest: Mark,
-) -> Answer
+) -> Result<u64, Refusal>
     requires { (hall_verdict hall.old n ≡ Sound) × (Nearest (take n hall.old) model geometry nearest) }
     ensures { Stepped (remove_geometry model geometry) hall.old n result hall.new }
 {
     match geometry_at(&hall[..n], nearest, model, geometry) {
-        FoundGeometry::Absent => refused(21, 0),
-        FoundGeometry::At(places) => cut_geometry(hall, n, model, geometry, places),
+        None => Err(Refusal::by(21)),
+        Some(places) => cut_geometry(hall, n, model, geometry, places),
     }
 }
 
@@ -77,8 +75,8 @@ fn cut_geometry(
     model: u64,
     geometry: u64,
     places: GeometryPlace,
-) -> Answer
-    requires { (hall_verdict hall.old n ≡ Sound) × (geometry_place (models_in (records (take n hall.old))) model geometry ≡ some places) }
+) -> Result<u64, Refusal>
+    requires { (hall_verdict hall.old n ≡ Sound) × (geometry_place (models_in (records (take n hall.old))) model geometry ≡ Some places) }
     ensures { Stepped (remove_geometry model geometry) hall.old n result hall.new }
 {
     let at = places.geometry;
@@ -88,7 +86,7 @@ fn cut_geometry(
     put_u32_le(hall, places.model, length - 2);
     copy_within(hall, entry + 2, entry, at - (entry + 2));
     close_gap(hall, n, at - 2, end);
-    Answer::Accepted((n - (end - at) - 2) as u64)
+    Ok((n - (end - at) - 2) as u64)
 }
 
 // The bytes from `at` to `end` taken out of the first n.

@@ -8,13 +8,13 @@ ghost use Rattle.halls.specs.Parsing.{models_in};
 ghost use Rattle.halls.specs.Places.{GeometryIn};
 ghost use Rattle.halls.specs.Records.{records};
 ghost use Rattle.halls.specs.Step.{rewritten, Stepped};
-ghost use Rattle.halls.specs.Inner.Walk.{Counted, SurveyedFirst, units};
-ghost use Rattle.halls.specs.declared.check.check.Verdict.TheVariants.{Sound};
+ghost use Rattle.halls.specs.Inner.Walk.{Counted, Found, units};
+ghost use Rattle.halls.specs.Verdict.{Sound};
 
-use crate::answer::{Answer, refused};
+use crate::answer::Refusal;
 use crate::check::check::survey_first;
-use crate::check::find::{FoundGeometry, geometry_at};
-use crate::check::order::{PASSED, TOO_LARGE, refused_by};
+use crate::check::find::geometry_at;
+use crate::check::order::{PASSED, TOO_LARGE, verdict_of};
 use crate::check::pass::{Findings, Summary};
 use crate::check::words::lent_triangles_lowest;
 use crate::edit::remove::close_gap;
@@ -28,13 +28,10 @@ pub fn replace_indices(
     model: u64,
     geometry: u64,
     indices: &[u32],
-) -> Answer
+) -> Result<u64, Refusal>
     ensures { Stepped (replace_indices model geometry indices.now) hall.old n result hall.new }
 {
-    let found = survey_first(hall, n, model, geometry);
-    if found.summary.lowest < PASSED {
-        return refused_by(found.summary.lowest);
-    }
+    let found = survey_first(hall, n, model, geometry)?;
     replace_in_hall(hall, n, model, geometry, indices, found)
 }
 
@@ -46,13 +43,13 @@ fn replace_in_hall(
     geometry: u64,
     indices: &[u32],
     found: Findings,
-) -> Answer
-    requires { (hall_verdict hall.old n ≡ Sound) × (SurveyedFirst hall.old n model geometry found) }
+) -> Result<u64, Refusal>
+    requires { (hall_verdict hall.old n ≡ Sound) × (Found (take n hall.old) model geometry found) }
     ensures { Stepped (replace_indices model geometry indices.now) hall.old n result hall.new }
 {
     match geometry_at(&hall[..n], found.nearest, model, geometry) {
-        FoundGeometry::Absent => refused(21, 0),
-        FoundGeometry::At(places) => replace_in_geometry(
+        None => Err(Refusal::by(21)),
+        Some(places) => replace_in_geometry(
             hall,
             n,
             model,
@@ -73,7 +70,7 @@ fn replace_in_geometry(
     at: usize,
     indices: &[u32],
     found: Summary,
-) -> Answer
+) -> Result<u64, Refusal>
     requires { (hall_verdict hall.old n ≡ Sound) × (GeometryIn hall.old n model geometry at) × (Counted (models_in (records (take n hall.old))) found) }
     ensures { Stepped (replace_indices model geometry indices.now) hall.old n result hall.new }
 {
@@ -81,16 +78,16 @@ fn replace_in_geometry(
     let stride = u16_le(hall, at + 18);
     let start = at + 55 + count as usize * stride as usize;
     let held = u32_le(hall, start + 6) as usize;
-    let lowest = indices_lowest(indices, count as u32, held, found);
-    if lowest < PASSED {
-        return refused_by(lowest);
-    }
+    verdict_of(indices_lowest(indices, count as u32, held, found))?;
     let needed = n - 4 * held + 4 * indices.len();
     if hall.len() < needed {
-        return refused(24, needed as u64);
+        return Err(Refusal {
+            check: 24,
+            needed: needed as u64,
+        });
     }
     rewrite(hall, n, at, start, held, indices);
-    Answer::Accepted(needed as u64)
+    Ok(needed as u64)
 }
 
 // The rank of the first of checks 17, 18, 27 and 19 that new indices of a geometry of `limit` vertices fail in the place of `held`, or PASSED.

@@ -2,17 +2,11 @@
 ghost use Rattle.std.specs.Prelude.{◌≡◌, ◌-◌, ◌≤◌, ◌^◌};
 ghost use Rattle.halls.specs.Fronts.{Shaped, content_at, entries_at};
 ghost use Rattle.halls.specs.Inner.Judging.{has_record, has_geometry};
+ghost use Rattle.halls.specs.Inner.Kinds.{kind_number};
 ghost use Rattle.halls.specs.Inner.Walk.{front_of};
 
+use crate::format::kind::RecordKind;
 use sections::{ends_inside, u16_le, u32_le};
-
-// A model's record with the entries of its mapping, or a geometry's four records with its vertex bytes and the indices that it holds.
-#[derive(Clone, Copy)]
-pub enum Front {
-    Model(usize),
-    Geometry(usize, usize),
-    Broken,
-}
 
 // Vertex bytes, and indices held.
 #[derive(Clone, Copy)]
@@ -21,26 +15,33 @@ pub struct GeometryShape {
     pub held: usize,
 }
 
-// Each record is exact in length by its own numbers.
-pub fn front_of(list: &[u8]) -> Front
+// A model's record with the entries of its mapping, or a geometry's four records.
+#[derive(Clone, Copy)]
+pub enum Front {
+    Model(usize),
+    Geometry(GeometryShape),
+}
+
+// Each record is exact in length by its own numbers. None where neither stands there.
+pub fn front_of(list: &[u8]) -> Option<Front>
     ensures { result ≡ front_of list.now }
 {
     let entries = entries_of(list);
-    if has_record(list, 0, 1, 6 + 2 * entries) {
-        return Front::Model(entries);
+    if has_record(list, 0, RecordKind::Model, 6 + 2 * entries) {
+        return Some(Front::Model(entries));
     }
     let shape = shape_of(list);
     if has_geometry(list, shape) {
-        return Front::Geometry(shape.content, shape.held);
+        return Some(Front::Geometry(shape));
     }
-    Front::Broken
+    None
 }
 
 // The entries of the mapping of the model at the front.
 pub fn entries_of(front: &[u8]) -> usize
     ensures { (result ≡ entries_at front.now) × (result ≤ 2 ^ 31) }
 {
-    above(u32_le(front, 0), 6) / 2
+    u32_le(front, 0).saturating_sub(6) as usize / 2
 }
 
 // Of the geometry at the front.
@@ -50,7 +51,7 @@ pub fn shape_of(front: &[u8]) -> GeometryShape
     let content = content_of(front);
     GeometryShape {
         content,
-        held: above(u32_le(front, 55 + content), 4) / 4,
+        held: u32_le(front, 55 + content).saturating_sub(4) as usize / 4,
     }
 }
 
@@ -66,22 +67,27 @@ fn has_geometry(list: &[u8], shape: GeometryShape) -> bool
     requires { Shaped list.now shape }
     ensures { result ≡ has_geometry list.now }
 {
-    if !has_record(list, 0, 2, 14) {
+    if !has_record(list, 0, RecordKind::Geometry, 14) {
         return false;
     }
-    if !has_record(list, 20, 3, 16) {
+    if !has_record(list, 20, RecordKind::Declaration, 16) {
         return false;
     }
-    if !has_record(list, 42, 4, 7 + shape.content) {
+    if !has_record(list, 42, RecordKind::Vertices, 7 + shape.content) {
         return false;
     }
-    has_record(list, 55 + shape.content, 5, 4 + 4 * shape.held)
+    has_record(
+        list,
+        55 + shape.content,
+        RecordKind::Indices,
+        4 + 4 * shape.held,
+    )
 }
 
 // At this place a record of this kind begins, with a body of n bytes.
-fn has_record(list: &[u8], at: usize, kind: u16, n: usize) -> bool
+fn has_record(list: &[u8], at: usize, kind: RecordKind, n: usize) -> bool
     requires { n ≤ 2 ^ 60 }
-    ensures { result ≡ has_record list.now at kind n }
+    ensures { result ≡ has_record list.now at (kind_number kind) n }
 {
     if !ends_inside(at, 6 + n, list.len()) {
         return false;
@@ -89,15 +95,5 @@ fn has_record(list: &[u8], at: usize, kind: u16, n: usize) -> bool
     if u32_le(list, at) as usize != n {
         return false;
     }
-    u16_le(list, at + 4) == kind
-}
-
-// What a number has above another, 0 where that is greater.
-fn above(n: u32, base: u32) -> usize
-    ensures { (result ≡ n - base) × (result ≤ 2 ^ 32) }
-{
-    if n < base {
-        return 0;
-    }
-    (n - base) as usize
+    u16_le(list, at + 4) == kind.number()
 }

@@ -5,12 +5,13 @@ ghost use Rattle.sections.specs.Le.{bytes};
 ghost use Rattle.vertices.specs.Buffer.{layout_number};
 ghost use Rattle.vertices.specs.Runs.{numbers, run};
 ghost use Rattle.halls.specs.List.{record_bytes, model_numbers, geometry_record, declaration_record, vertices_record, indices_record};
+ghost use Rattle.halls.specs.Inner.Kinds.{kind_number};
 ghost use Rattle.halls.specs.Inner.NewIndices.{indices_of};
 ghost use Rattle.halls.specs.Inner.View.{numbers_seen, HeldIn, held_count, indices_in, indices_length};
-ghost use Rattle.halls.specs.declared.read.view.FoundIndices.TheVariants.{Indices};
 
 use crate::check::words::put_words;
-use crate::read::view::{GeometryView, IndexView, held};
+use crate::format::kind::RecordKind;
+use crate::read::view::{GeometryView, IndexView, IndexWidth, held};
 use crate::read::widen::put_widened;
 use sections::{copy_into, put_u8_le, put_u16_le, put_u32_le};
 use vertices::{VertexBuffer, VertexDeclaration, write_declaration};
@@ -29,7 +30,7 @@ pub fn put_model_numbers(out: &mut [u8], at: usize, body: u32, binding: u32, mas
     requires { at + 12 ≤ length out.old }
     ensures { out.new ≡ overwrite out.old at (model_numbers body binding mask) }
 {
-    put_head(out, at, body, 1);
+    put_head(out, at, body, RecordKind::Model);
     put_u32_le(out, at + 6, binding);
     put_u16_le(out, at + 10, mask);
 }
@@ -39,7 +40,7 @@ pub fn put_geometry(out: &mut [u8], at: usize, view: GeometryView)
     requires { at + 20 ≤ length out.old }
     ensures { out.new ≡ overwrite out.old at (geometry_record (numbers_seen view)) }
 {
-    put_head(out, at, 14, 2);
+    put_head(out, at, 14, RecordKind::Geometry);
     put_u16_le(out, at + 6, view.shader);
     put_u32_le(out, at + 8, view.index_count);
     put_u32_le(out, at + 12, view.triangle_count);
@@ -52,7 +53,7 @@ pub fn put_declaration(out: &mut [u8], at: usize, declaration: VertexDeclaration
     requires { at + 22 ≤ length out.old }
     ensures { out.new ≡ overwrite out.old at (declaration_record declaration) }
 {
-    put_head(out, at, 16, 3);
+    put_head(out, at, 16, RecordKind::Declaration);
     write_declaration(out, at + 6, declaration);
 }
 
@@ -83,7 +84,7 @@ pub fn put_vertex_bytes(
     requires { (at + (13 + length content.now) ≤ length out.old) × (length content.now < 2 ^ 31) }
     ensures { out.new ≡ overwrite out.old at (vertices_record (record { layout = layout; stride = stride; count = count; content = content.now })) }
 {
-    put_head(out, at, (7 + content.len()) as u32, 4);
+    put_head(out, at, (7 + content.len()) as u32, RecordKind::Vertices);
     put_u8_le(out, at + 6, layout);
     put_u16_le(out, at + 7, stride);
     put_u32_le(out, at + 9, count);
@@ -92,10 +93,10 @@ pub fn put_vertex_bytes(
 
 // Kind 5: 10 bytes and the indices. `raw` has them as they are stored.
 pub fn put_indices(out: &mut [u8], at: usize, view: IndexView, raw: &[u8])
-    requires { (HeldIn view raw.now) × (at + indices_length (Indices view) ≤ length out.old) }
+    requires { (HeldIn view raw.now) × (at + indices_length (Some view) ≤ length out.old) }
     ensures { out.new ≡ overwrite out.old at (indices_record (indices_in view raw.now)) }
 {
-    put_head(out, at, 4 + 4 * held(view), 5);
+    put_head(out, at, 4 + 4 * held(view), RecordKind::Indices);
     put_u32_le(out, at + 6, view.count);
     put_items(out, at + 10, view, raw);
 }
@@ -106,7 +107,7 @@ pub fn put_lent_indices(out: &mut [u8], at: usize, indices: &[u32])
     ensures { out.new ≡ overwrite out.old at (indices_record (indices_of indices.now)) }
 {
     let count = indices.len() as u32;
-    put_head(out, at, 4 + 4 * count, 5);
+    put_head(out, at, 4 + 4 * count, RecordKind::Indices);
     put_u32_le(out, at + 6, count);
     put_words(out, at + 10, indices);
 }
@@ -115,19 +116,20 @@ fn put_items(out: &mut [u8], at: usize, view: IndexView, raw: &[u8])
     requires { (HeldIn view raw.now) × (at + held_count view * 4 ≤ length out.old) }
     ensures { out.new ≡ overwrite out.old at (run 4 (indices_in view raw.now).items) }
 {
-    if view.width == 2 {
-        put_widened(out, at, raw, view.count as usize);
-        return;
-    }
-    if view.width == 4 {
-        copy_into(out, at, raw);
+    if let Some(items) = view.items {
+        match items.width {
+            IndexWidth::Two => put_widened(out, at, raw, view.count as usize),
+            IndexWidth::Four => {
+                copy_into(out, at, raw);
+            }
+        }
     }
 }
 
-pub fn put_head(out: &mut [u8], at: usize, body: u32, kind: u16)
+pub fn put_head(out: &mut [u8], at: usize, body: u32, kind: RecordKind)
     requires { at + 6 ≤ length out.old }
-    ensures { out.new ≡ overwrite out.old at (bytes 4 body ++ bytes 2 kind) }
+    ensures { out.new ≡ overwrite out.old at (bytes 4 body ++ bytes 2 (kind_number kind)) }
 {
     put_u32_le(out, at, body);
-    put_u16_le(out, at + 4, kind);
+    put_u16_le(out, at + 4, kind.number());
 }

@@ -1,48 +1,34 @@
-// Lists behind a pointer: whether they resolve, and the bytes of their elements.
+// Lists behind a pointer: the bytes of their elements.
 ghost use Rattle.std.specs.Prelude.{◌≡◌};
-ghost use Rattle.sections.specs.Address.{sections};
+ghost use Rattle.std.specs.Option.{option_copied};
 ghost use Rattle.halls.specs.Reading.{or_empty};
-ghost use Rattle.halls.specs.Inner.Measure.{missing, list_bytes};
+ghost use Rattle.halls.specs.Inner.Measure.{list_bytes};
 
-use sections::{LocatedList, locate_list, resolve};
+use sections::ResReader;
 
-// Whether a list with a count and a pointer does not resolve.
-pub fn unresolved_list<'a>(
-    system: &'a [u8],
-    graphics: &'a [u8],
+// Bytes, where `locate_list` tells a place. Of a list with a count and a pointer; none of their bytes where it is empty, nothing where it does not resolve.
+pub fn list_bytes<'a>(
+    reader: &ResReader<'a>,
     width: u8,
     count: u32,
     pointer: u64,
-) -> bool
-    ensures { result ≡ missing (list_bytes (sections system.now graphics.now) width count pointer) }
+) -> Option<&'a [u8]>
+    ensures { option_copied result ≡ list_bytes reader.now width count pointer }
 {
-    match locate_list(system, graphics, pointer, count, width) {
-        LocatedList::Unresolved => true,
-        LocatedList::Empty => false,
-        LocatedList::Found(_) => false,
+    if count == 0 || pointer == 0 {
+        return Some(&[]);
     }
+    reader.resolve(pointer, count as usize * width as usize)
 }
 
-// The bytes of a list's elements, none where it is empty or does not resolve.
-pub fn list_bytes<'a>(
-    system: &'a [u8],
-    graphics: &'a [u8],
+// The same, none also where it does not resolve.
+pub fn list_bytes_or_empty<'a>(
+    reader: &ResReader<'a>,
     width: u8,
     count: u32,
     pointer: u64,
 ) -> &'a [u8]
-    ensures { result.now ≡ or_empty (list_bytes (sections system.now graphics.now) width count pointer) }
+    ensures { result.now ≡ or_empty (list_bytes reader.now width count pointer) }
 {
-    if count == 0 {
-        return &system[..0];
-    }
-    if pointer == 0 {
-        return &system[..0];
-    }
-    resolve(
-        system,
-        graphics,
-        pointer,
-        (count as usize) * (width as usize),
-    )
+    list_bytes(reader, width, count, pointer).unwrap_or(&[])
 }

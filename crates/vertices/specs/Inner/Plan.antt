@@ -1,36 +1,35 @@
 -- The component behind each field of a unified vertex, found once for all vertices. Only private functions use it.
 use Rattle.std.specs.Prelude.{◌≡◌, List, ℕ, ◌+◌, ◌≤◌, ◌<◌}
 use Rattle.vertices.specs.Types.{size_of}
-use Rattle.vertices.specs.Declaration.{component_of, found_component}
+use Rattle.vertices.specs.Declaration.{component_of}
 use Rattle.vertices.specs.Attribute.{value_at, as_vec2, as_vec3, as_vec4, as_rgba8, white}
 use Rattle.vertices.specs.Unified.{as_indices, no_indices, zero_vec2, zero_vec3, zero_vec4, upward, along_x}
 use Rattle.vertices.specs.declared.types.VertexComponent.{VertexComponent}
 use Rattle.vertices.specs.declared.types.VertexComponentType.{VertexComponentType}
 use Rattle.vertices.specs.declared.attribute.VertexAttributeValue.{VertexAttributeValue}
 use Rattle.vertices.specs.declared.declaration.VertexDeclaration.{VertexDeclaration}
-use Rattle.vertices.specs.declared.declaration.FoundComponent.{FoundComponent}
-use Rattle.vertices.specs.declared.declaration.FoundComponent.TheVariants.{Component, Missing}
+use Rattle.std.specs.Prelude.{Option, Some, None}
 use Rattle.vertices.specs.declared.unify.UnifiedVertex.{UnifiedVertex}
 use Rattle.vertices.specs.declared.unify.UnifiedPlan.{UnifiedPlan}
 
 -- the plan of a declaration
 abbrev pub plan_of : VertexDeclaration → UnifiedPlan
 plan_of d = record {
-  position = found_component (component_of d 0);
-  normal = found_component (component_of d 3);
-  color0 = found_component (component_of d 4);
-  color1 = found_component (component_of d 5);
-  texcoord0 = found_component (component_of d 6);
-  texcoord1 = found_component (component_of d 7);
-  tangent = found_component (component_of d 14);
-  blend_weights = found_component (component_of d 1);
-  blend_indices = found_component (component_of d 2);
+  position = component_of d 0;
+  normal = component_of d 3;
+  color0 = component_of d 4;
+  color1 = component_of d 5;
+  texcoord0 = component_of d 6;
+  texcoord1 = component_of d 7;
+  tangent = component_of d 14;
+  blend_weights = component_of d 1;
+  blend_indices = component_of d 2;
 }
 
 -- what a field shows of the vertex at `base`
-unfoldable pub planned : {A : Type 0} → (VertexComponentType → VertexAttributeValue → A) → A → List ℕ → ℕ → FoundComponent → A
-planned see default s base Missing = default
-planned see default s base (Component c) = see c.component_type (value_at c.component_type s (base + c.offset))
+unfoldable pub planned : {A : Type 0} → (VertexComponentType → VertexAttributeValue → A) → A → List ℕ → ℕ → Option VertexComponent → A
+planned see default s base None = default
+planned see default s base (Some c) = see c.component_type (value_at c.component_type s (base + c.offset))
 
 -- the vertex at `base` by a plan
 unfoldable pub planned_vertex : UnifiedPlan → List ℕ → ℕ → UnifiedVertex
@@ -52,9 +51,9 @@ pub record Inside (c : VertexComponent) (base n : ℕ) : Type 0 where
   pub ends : 0 < c.size → base + c.offset + c.size ≤ n
 
 -- and so does the component behind a field, where there is one
-abbrev pub Ends : FoundComponent → ℕ → ℕ → Type 0
-Ends Missing base n = Unit
-Ends (Component c) base n = Inside c base n
+abbrev pub Ends : Option VertexComponent → ℕ → ℕ → Type 0
+Ends None base n = Unit
+Ends (Some c) base n = Inside c base n
 
 -- and so for each field of a plan
 pub record Readable (p : UnifiedPlan) (base n : ℕ) : Type 0 where

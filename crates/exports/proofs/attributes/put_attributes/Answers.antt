@@ -1,29 +1,16 @@
 -- The records passed stand in out, one a turn.
-use mathlib.Core.Path.{refl}
-use native.Mathlib.Omega.{arith}
-use Rattle.exports.proofs.AttributeRecords.{Recording-start, Recording-turn, Recording-end}
+use Rattle.std.proofs.Common.{refl}
+use Rattle.exports.proofs.AttributeRecords.{recording_start, recording_room, recording_turn, recording_end}
 use Rattle.exports.proofs.attributes.put_attributes.Goals as goal
 
-pub loop-i-init : goal.loop-i-init
-loop-i-init c = Recording-start (omega (arith, c.requires)) (omega (arith, c.requires))
-
-pub offset_bounds-attributes-i : goal.offset_bounds-attributes-i
-offset_bounds-attributes-i c = omega (arith, c.requires)
-
-pub bounds-attributes-i : goal.bounds-attributes-i
-bounds-attributes-i c = omega (arith, c.requires)
-
-pub overflow_mul-i : goal.overflow_mul-i
-overflow_mul-i c = omega (arith, c.requires)
+pub loop-attribute-init : goal.loop-attribute-init
+loop-attribute-init c = rw c.into_iter-attribute-iterator.ensures.into_iter_gives (recording_start c.args.attributes c.args.out.now)
 
 pub put_attribute-requires : goal.put_attribute-requires
-put_attribute-requires c = omega (arith, c.requires, c.loop-i.invariant.writing.same)
+put_attribute-requires c = recording_room c.loop-attribute.invariant c.requires c.in-Some.ensures.steps
 
-pub loop-i-preserved : goal.loop-i-preserved
-loop-i-preserved c = Recording-turn c.loop-i.invariant _ c.loop-i-test.true refl c.put_attribute.ensures
-
-pub shape_of-out : goal.shape_of-out
-shape_of-out c = c.loop-i.invariant.writing.same
+pub loop-attribute-preserved : goal.loop-attribute-preserved
+loop-attribute-preserved c = recording_turn c.loop-attribute.invariant c.requires c.in-Some.ensures.steps c.put_attribute.ensures refl
 
 pub returns : goal.returns
-returns c = Recording-end c.loop-i.invariant (omega (arith, c.loop-i.invariant.writing.low))
+returns c = recording_end c.loop-attribute.invariant c.requires c.in-None.ensures.steps.0

@@ -9,4 +9,4 @@ pub returns : goal.returns
 unfolding bytes
 returns c =
     let section = Edited-fits 1 c.put_u8_le.ensures (omega arith) in
-    Edited-behind _ _ _ 1 8 section refl refl c.put_u64_le.ensures (omega arith) ∙ rw (c.section_number.ensures, c.offset_of.ensures)
+    Edited-behind _ _ _ 1 8 section refl refl c.put_u64_le.ensures (omega arith) ∙ rw (c.place_numbers-section.ensures.0, c.place_numbers-section.ensures.1)

@@ -7,11 +7,11 @@ use Rattle.vertices.proofs.DeclarationLaws.{declaration_length_lem}
 use Rattle.exports.specs.Buffers.{stored_bytes}
 use Rattle.exports.proofs.buffers.put_stored.Goals as goal
 
-pub returns-in-Declaration : goal.returns-in-Declaration
-returns-in-Declaration c =
-    let told = c.in-Declaration.is in
+pub returns-in-Some : goal.returns-in-Some
+returns-in-Some c =
+    let told = c.in-Some.is in
     let long : length (stored_bytes c.args.declaration) ≡ 16 = rw told (declaration_length_lem _) in
     Edited-fits 16 c.write_declaration.ensures (omega (arith, c.requires)) ∙ rw told
 
-pub returns-in-Absent : goal.returns-in-Absent
-returns-in-Absent c = rw c.in-Absent.is (sym (overwrite-none c.args.out.now c.args.at))
+pub returns-in_default : goal.returns-in_default
+returns-in_default c = rw c.in_default.is (sym (overwrite-none c.args.out.now c.args.at))

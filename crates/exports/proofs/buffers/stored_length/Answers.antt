@@ -4,5 +4,5 @@ use native.Mathlib.Omega.{arith}
 use Rattle.vertices.proofs.DeclarationLaws.{declaration_length_lem}
 use Rattle.exports.proofs.buffers.stored_length.Goals as goal
 
-pub returns-in-Declaration : goal.returns-in-Declaration
-returns-in-Declaration c = (rw c.in-Declaration.is (sym (declaration_length_lem _)), omega arith)
+pub returns-in-Some : goal.returns-in-Some
+returns-in-Some c = (rw c.in-Some.is (sym (declaration_length_lem _)), omega arith)

@@ -1,62 +1,66 @@
 -- Its parts are written one behind the other.
-use Prim.Native.Nat.{◌+◌, ◌*◌}
+use mathlib.Core.List.{List}
+use Prim.Native.Nat.{ℕ, ◌+◌, ◌-◌, ◌*◌, ◌≤◌}
 use native.Mathlib.Omega.{arith}
+use lib.ListN.{length, take, drop}
+use Rattle.halls.specs.ImageSize.{padded}
+use Rattle.images.specs.Fronts.{geometries_size, image_limit}
 use Rattle.images.proofs.FrontLaws.{slice-length}
 use Rattle.images.proofs.WrittenModel.{Record-fits, inner-fits, ModelFits_lem, model-low, model_length-is, model_size-is, model-measured, model-written}
+use Rattle.images.proofs.model.put_model.Goals.{After-entries_of-entries}
 use Rattle.images.proofs.model.put_model.Goals as goal
+
+-- the model's record is whole, and its image has room
+record Fit (s : List ℕ) (n at : ℕ) (out : List ℕ) : Type 0 where
+  whole : 12 + 2 * n ≤ length s
+  fits : at + (0x30 + padded (8 * n) + padded (2 * n) + geometries_size n (take (length s - (12 + 2 * n)) (drop (12 + 2 * n) s))) ≤ length out
+  low : at + (0x30 + padded (8 * n) + padded (2 * n) + geometries_size n (take (length s - (12 + 2 * n)) (drop (12 + 2 * n) s))) ≤ image_limit
+
+fit : (c : After-entries_of-entries) → Fit c.args.front.now c.entries_of-entries.result c.args.at c.args.out.now
+fit c =
+    let s = c.args.front.now in
+    let n = c.entries_of-entries.result in
+    let q = c.entries_of-entries.ensures.0 in
+    record {
+      whole = Record-fits s c.requires.0 n q;
+      fits = ModelFits_lem s c.requires.0 n q c.args.at c.args.out.now c.requires.2;
+      low = model-low s c.requires.0 n q c.args.at c.args.out.now c.requires.2;
+    }
 
 pub put_model_numbers-requires : goal.put_model_numbers-requires
 put_model_numbers-requires c =
-    let s = c.args.front.now in
-    let n = c.entries_of-entries.result in
-    let q = c.entries_of-entries.ensures.0 in
-    let fits = ModelFits_lem s c.requires.0 n q c.args.at c.args.out.now c.requires.2 in
-    let low = model-low s c.requires.0 n q c.args.at c.args.out.now c.requires.2 in
+    let f = fit (goal.at.put_model_numbers-requires c).After-entries_of-entries in
     let x = c.padded.ensures in
-    omega (arith, fits, low, x, q, c.requires.1)
+    omega (arith, f.fits, f.low, x, c.entries_of-entries.ensures.0, c.requires.1)
 
 pub slice_bounds-put_copy-end : goal.slice_bounds-put_copy-end
 slice_bounds-put_copy-end c =
-    let s = c.args.front.now in
-    let n = c.entries_of-entries.result in
-    let q = c.entries_of-entries.ensures.0 in
-    omega (arith, Record-fits s c.requires.0 n q)
+    let f = fit (goal.at.slice_bounds-put_copy-end c).After-entries_of-entries in
+    omega (arith, f.whole)
 
 pub put_copy-requires : goal.put_copy-requires
 put_copy-requires c =
-    let s = c.args.front.now in
-    let n = c.entries_of-entries.result in
-    let q = c.entries_of-entries.ensures.0 in
-    let fits = ModelFits_lem s c.requires.0 n q c.args.at c.args.out.now c.requires.2 in
-    let low = model-low s c.requires.0 n q c.args.at c.args.out.now c.requires.2 in
+    let f = fit (goal.at.put_copy-requires c).After-entries_of-entries in
     let x = c.padded.ensures in
-    let l = slice-length s 12 (12 + 2 * n) (omega arith) (omega (arith, Record-fits s c.requires.0 n q)) in
-    rw l (omega (arith, fits, x, q, c.requires.1))
+    let l = slice-length c.args.front.now 12 (12 + 2 * c.entries_of-entries.result) (omega arith) (omega (arith, f.whole)) in
+    rw l (omega (arith, f.fits, x, c.entries_of-entries.ensures.0, c.requires.1))
 
 pub slice_bounds-put_geometries-count : goal.slice_bounds-put_geometries-count
 slice_bounds-put_geometries-count c =
-    let s = c.args.front.now in
-    let n = c.entries_of-entries.result in
-    let q = c.entries_of-entries.ensures.0 in
-    omega (arith, Record-fits s c.requires.0 n q)
+    let f = fit (goal.at.slice_bounds-put_geometries-count c).After-entries_of-entries in
+    omega (arith, f.whole)
 
 pub slice_bounds-put_geometries-start : goal.slice_bounds-put_geometries-start
 slice_bounds-put_geometries-start c =
-    let s = c.args.front.now in
-    let n = c.entries_of-entries.result in
-    let q = c.entries_of-entries.ensures.0 in
-    omega (arith, Record-fits s c.requires.0 n q)
+    let f = fit (goal.at.slice_bounds-put_geometries-start c).After-entries_of-entries in
+    omega (arith, f.whole)
 
 pub put_geometries-inner-requires : goal.put_geometries-inner-requires
 put_geometries-inner-requires c =
-    let s = c.args.front.now in
-    let n = c.entries_of-entries.result in
-    let q = c.entries_of-entries.ensures.0 in
-    let fits = ModelFits_lem s c.requires.0 n q c.args.at c.args.out.now c.requires.2 in
-    let low = model-low s c.requires.0 n q c.args.at c.args.out.now c.requires.2 in
+    let f = fit (goal.at.put_geometries-inner-requires c).After-entries_of-entries in
     let x = c.padded.ensures in
     let y = c.padded-2.ensures in
-    record { within = inner-fits s c.requires.0 n q; room = record { fits = omega (arith, fits, x, y); low = omega (arith, low, x, y) }; apart = omega (arith, x, y) }
+    record { within = inner-fits c.args.front.now c.requires.0 c.entries_of-entries.result c.entries_of-entries.ensures.0; room = record { fits = omega (arith, f.fits, x, y); low = omega (arith, f.low, x, y) }; apart = omega (arith, x, y) }
 
 pub overflow_add-result : goal.overflow_add-result
 overflow_add-result c =

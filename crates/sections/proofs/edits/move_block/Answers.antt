@@ -1,7 +1,13 @@
 -- The part that is put into the block is read back from it.
-use native.Mathlib.Omega.{arith}
-use Rattle.sections.proofs.Runs.{through_block}
+use Rattle.std.proofs.Common.{rules, ◌≡◌}
+use Rattle.std.proofs.lemmas.Slice.{overwrites}
+use Rattle.sections.specs.Edit.{part}
+use Rattle.sections.proofs.EditLaws.{part_length, overwrite-slice}
 use Rattle.sections.proofs.edits.move_block.Goals as goal
 
 pub returns : goal.returns
-returns c = let b = c.empty_block-block.result in cc (through_block b c.args.buf.now c.args.from c.args.k (omega (arith, c, c.requires)) (omega (arith, c.requires)))
+unfolding part
+returns c =
+    let a = c.args in
+    let e : c.copy_from_slice-2.new.self ≡ part a.buf.now a.from a.k = search (rules, overwrites) in
+    rw e (overwrite-slice a.buf.now a.to a.k _ (part_length a.buf.now a.from a.k c.requires.source))

@@ -1,19 +1,17 @@
--- Backward with the part at `from`, a block a turn; the last one is what is left.
-use mathlib.Core.Path.{◌∙◌}
-use native.Mathlib.Omega.{arith}
+-- Backward with the part at `from`: what is beyond the whole blocks, then a block a turn.
+use Rattle.std.proofs.Common.{arith, ◌≡◌, ◌-◌, ◌*◌, ◌/◌, length}
+use Rattle.sections.specs.Edit.{part}
 use Rattle.sections.proofs.EditLaws.{part_length}
-use Rattle.sections.proofs.Runs.{Backward-start, move_up_turn, move_up-last}
+use Rattle.sections.proofs.Runs.{Backward, Backward-start, move_up_turn}
 use Rattle.sections.proofs.edits.move_up.Goals as goal
 
-pub loop-i-init : goal.loop-i-init
-loop-i-init c = let e = part_length _ _ _ (omega (arith, c.requires)) in (omega arith, Backward-start _ _ _ _ e (rw e c.requires.1))
+pub loop-index-init : goal.loop-index-init
+loop-index-init c =
+    let a = c.args in
+    let e : length (part a.buf.now a.from a.n) ≡ a.n = part_length a.buf.now a.from a.n (omega (arith, c.requires)) in
+    let start : Backward a.buf.now a.to (part a.buf.now a.from a.n) a.buf.now a.n = Backward-start a.buf.now a.to (part a.buf.now a.from a.n) a.n e (rw e c.requires.room) in
+    rw c.move_block.ensures (move_up_turn start c.requires.order (omega arith) (a.n / 4096 * 4096) (a.n - a.n / 4096 * 4096) (omega arith))
 
-pub loop-i-preserved : goal.loop-i-preserved
-loop-i-preserved c =
-    let v = c.loop-i.invariant in
-    (omega arith, rw c.move_block.ensures (move_up_turn v.1 c.requires.0 v.0 _ 4096 (omega arith)))
-
-pub returns : goal.returns
-returns c =
-    let v = c.loop-i.invariant in
-    c.move_block-2.ensures ∙ move_up-last v.1 c.requires.0 v.0
+pub loop-index-preserved : goal.loop-index-preserved
+loop-index-preserved c =
+    rw c.move_block-in-loop-index.ensures (move_up_turn c.loop-index.invariant c.requires.order (omega arith) _ 4096 (omega arith))

@@ -1,11 +1,8 @@
--- Backward with the part at `from`, a block a turn; the last one is what is left.
-use Prim.Native.Nat.{◌≤◌}
+-- Backward with the part at `from`: what is beyond the whole blocks, then a block a turn.
+use Rattle.std.proofs.Common.{◌*◌}
 use Rattle.sections.specs.Edit.{part}
 use Rattle.sections.proofs.Runs.{Backward}
 use Rattle.sections.proofs.edits.move_up.Given as goal
 
-abbrev pub invariant-loop-i : goal.invariant-loop-i
-invariant-loop-i l = (l.i ≤ l.n) × Backward l.initial.buf l.to (part l.initial.buf l.from l.n) l.buf l.i
-
-abbrev pub decreases-loop-i : goal.decreases-loop-i
-decreases-loop-i l = l.i
+abbrev pub invariant-loop-index : goal.invariant-loop-index
+invariant-loop-index l = Backward l.fn.buf l.to (part l.fn.buf l.from l.n) l.buf (l.index * 4096)

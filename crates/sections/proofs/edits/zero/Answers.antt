@@ -1,14 +1,13 @@
 -- Where the range test holds the bytes are overwritten, else nothing is.
-use mathlib.Core.Path.{sym, ◌∙◌}
+use Rattle.std.proofs.Common.{rules, arith, ◌≡◌, ◌+◌, ◌-◌, ◌≤◌, length, take, drop, length-take, length-drop}
+use Rattle.std.proofs.lemmas.List.{length-replicate}
 use borrow.Author.Tests.{leb-true}
-use Rattle.sections.proofs.EditLaws.{Edited-yes, Edited-no}
+use Rattle.sections.proofs.EditLaws.{Edited-yes, overwrite-slice}
 use Rattle.sections.proofs.edits.zero.Goals as goal
 
-pub zero_range-requires : goal.zero_range-requires
-zero_range-requires c = leb-true _ _ (sym c.ends_inside.ensures ∙ c.if-ends_inside.true)
-
-pub returns-then-ends_inside : goal.returns-then-ends_inside
-returns-then-ends_inside c = Edited-yes (sym c.ends_inside.ensures ∙ c.if-ends_inside.true) c.zero_range.ensures
-
 pub returns : goal.returns
-returns c = Edited-no (sym c.ends_inside.ensures ∙ c.if-ends_inside.false)
+returns c =
+    let a = c.args in
+    let fit : a.at + a.n ≤ length a.buf.now = leb-true _ _ (search rules) in
+    let e : length (take (a.at + a.n - a.at) (drop a.at a.buf.now)) ≡ a.n = simp (length-take, length-drop) (omega arith) in
+    Edited-yes (search rules) (rw (c.fill.ensures.after (λ y h. search rules), e) (overwrite-slice a.buf.now a.at a.n _ (length-replicate a.n 0)))

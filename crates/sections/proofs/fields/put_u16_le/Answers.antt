@@ -1,14 +1,10 @@
--- Where the range test holds the bytes are overwritten, else nothing is.
-use mathlib.Core.Path.{sym, ◌∙◌}
-use borrow.Author.Tests.{leb-true}
-use Rattle.sections.proofs.EditLaws.{Edited-yes, Edited-no}
+-- The library's bytes of the number, put there.
+use Rattle.std.proofs.Common.{◌≡◌, ◌∙◌}
+use Rattle.sections.specs.Le.{bytes}
+use Rattle.sections.proofs.LeLaws.{to_le-is, length-bytes}
 use Rattle.sections.proofs.fields.put_u16_le.Goals as goal
 
-pub set_u16-requires : goal.set_u16-requires
-set_u16-requires c = leb-true _ _ (sym c.ends_inside.ensures ∙ c.if-ends_inside.true)
-
-pub returns-then-ends_inside : goal.returns-then-ends_inside
-returns-then-ends_inside c = Edited-yes (sym c.ends_inside.ensures ∙ c.if-ends_inside.true) c.set_u16.ensures
-
 pub returns : goal.returns
-returns c = Edited-no (sym c.ends_inside.ensures ∙ c.if-ends_inside.false)
+returns c =
+    let e : c.to_le_bytes.result ≡ bytes 2 c.args.v = c.to_le_bytes.ensures ∙ to_le-is 2 c.args.v in
+    rw (e, length-bytes) at c.copy_into.ensures

@@ -1,14 +1,16 @@
--- Where the range test holds the bytes are all there, else the field is 0.
-use mathlib.Core.Path.{sym, ◌∙◌}
-use borrow.Author.Tests.{leb-true, leb-false}
-use Rattle.sections.proofs.LeLaws.{field_in, field_out}
+-- The bytes that fit, as the library reads them.
+use Rattle.std.proofs.Common.{rules, ◌≡◌, w16, List, ℕ}
+use Rattle.std.proofs.lemmas.Nat.{le_bytes_2}
+use Rattle.std.specs.Int.{from_le_bytes}
+use Rattle.sections.specs.Edit.{part}
+use Rattle.sections.proofs.EditLaws.{part_length, part-below}
+use Rattle.sections.proofs.LeLaws.{field_by, le-from}
 use Rattle.sections.proofs.fields.u16_le.Goals as goal
 
-pub u16_at-requires : goal.u16_at-requires
-u16_at-requires c = leb-true _ _ (sym c.ends_inside.ensures ∙ c.if-ends_inside.true)
-
-pub returns-then-ends_inside : goal.returns-then-ends_inside
-returns-then-ends_inside c = let h = leb-true _ _ (sym c.ends_inside.ensures ∙ c.if-ends_inside.true) in c.u16_at.ensures ∙ sym (field_in 2 _ _ h)
-
 pub returns : goal.returns
-returns c = sym (field_out 2 _ _ (leb-false _ _ (sym c.ends_inside.ensures ∙ c.if-ends_inside.false)))
+returns c =
+    let a = c.args in
+    let there : List ℕ = part a.b.now a.off 2 in
+    field_by 2 _ _ _ _ _ c.bytes_at.ensures c.map_or.ensures (λ fit p.
+    let read : c.map_or.result ≡ from_le_bytes w16 there = search rules in
+    le-from 2 _ there c.map_or.type_inv (le_bytes_2 there _ (part_length a.b.now a.off 2 fit) (part-below a.b.now a.off 2 (λ i. search rules)) read))

@@ -1,14 +1,16 @@
--- Where the range test holds the bytes are all there, else the field is 0.
-use mathlib.Core.Path.{sym, ◌∙◌}
-use borrow.Author.Tests.{leb-true, leb-false}
-use Rattle.sections.proofs.LeLaws.{field_in, field_out}
+-- The bytes that fit, as the library reads them.
+use Rattle.std.proofs.Common.{rules, ◌≡◌, w64, List, ℕ}
+use Rattle.std.proofs.lemmas.Nat.{le_bytes_8}
+use Rattle.std.specs.Int.{from_le_bytes}
+use Rattle.sections.specs.Edit.{part}
+use Rattle.sections.proofs.EditLaws.{part_length, part-below}
+use Rattle.sections.proofs.LeLaws.{field_by, le-from}
 use Rattle.sections.proofs.fields.u64_le.Goals as goal
 
-pub u64_at-requires : goal.u64_at-requires
-u64_at-requires c = leb-true _ _ (sym c.ends_inside.ensures ∙ c.if-ends_inside.true)
-
-pub returns-then-ends_inside : goal.returns-then-ends_inside
-returns-then-ends_inside c = let h = leb-true _ _ (sym c.ends_inside.ensures ∙ c.if-ends_inside.true) in c.u64_at.ensures ∙ sym (field_in 8 _ _ h)
-
 pub returns : goal.returns
-returns c = sym (field_out 8 _ _ (leb-false _ _ (sym c.ends_inside.ensures ∙ c.if-ends_inside.false)))
+returns c =
+    let a = c.args in
+    let there : List ℕ = part a.b.now a.off 8 in
+    field_by 8 _ _ _ _ _ c.bytes_at.ensures c.map_or.ensures (λ fit p.
+    let read : c.map_or.result ≡ from_le_bytes w64 there = search rules in
+    le-from 8 _ there c.map_or.type_inv (le_bytes_8 there _ (part_length a.b.now a.off 8 fit) (part-below a.b.now a.off 8 (λ i. search rules)) read))

@@ -1,21 +1,16 @@
--- A block of 0x80 bytes that finds something, else inline.
-use mathlib.Core.Path.{sym, ◌∙◌}
-use native.Mathlib.Omega.{arith}
-use Rattle.sections.proofs.AddressLaws.{resolved-whole, resolved-short}
-use Rattle.vertices.proofs.BufferLaws.{buffer_no_block, buffer_block, buffer-inline}
+-- The block, if it resolves and one of its layouts is found, else the geometry's own pointer.
+use Rattle.vertices.specs.Buffer.{vertex_buffer_at}
+use Rattle.vertices.proofs.BufferLaws.{plain-legacy}
+use Rattle.vertices.proofs.buffer.parse_vertex_buffer_at.Goals.{in-Some+in_default-block_buffer, in_default}
 use Rattle.vertices.proofs.buffer.parse_vertex_buffer_at.Goals as goal
 
-pub returns-then-raw-lt128 : goal.returns-then-raw-lt128
-returns-then-raw-lt128 c =
-    let short = resolved-short _ _ 128 (rw c.resolve-raw.ensures at c.if-raw-lt128.true) in
-    c.plain_at.ensures ∙ buffer_no_block _ _ _ _ _ short
+pub returns-in-Some-block_buffer : goal.returns-in-Some-block_buffer
+unfolding vertex_buffer_at
+returns-in-Some-block_buffer c = rw (← c.resolve.ensures, c.in-Some.is, ← c.block_buffer.ensures, c.in-Some-block_buffer.is)
 
-pub returns-in-Buffer : goal.returns-in-Buffer
-returns-in-Buffer c =
-    let whole = resolved-whole _ _ 128 (omega arith) (rw c.resolve-raw.ensures at c.if-raw-lt128.false) in
-    buffer_block _ _ _ _ _ _ _ whole (rw c.resolve-raw.ensures at (sym c.block_buffer.ensures ∙ c.in-Buffer.is))
-
-pub returns-in-NotFound : goal.returns-in-NotFound
-returns-in-NotFound c =
-    let whole = resolved-whole _ _ 128 (omega arith) (rw c.resolve-raw.ensures at c.if-raw-lt128.false) in
-    c.plain_at-in-NotFound.ensures ∙ buffer-inline _ _ _ _ _ _ whole (rw c.resolve-raw.ensures at (sym c.block_buffer.ensures ∙ c.in-NotFound.is))
+pub returns : goal.returns
+unfolding vertex_buffer_at
+returns c = elim c.match-resolve.branch [
+  | in-Some+in_default-block_buffer w ↦ rw (← c.resolve.ensures, w.in-Some.is, ← w.block_buffer.ensures, w.in_default-block_buffer.is, ← plain-legacy) c.buffer_at.ensures
+  | in_default w ↦ rw (← c.resolve.ensures, w.in_default.is, ← plain-legacy) c.buffer_at.ensures
+]

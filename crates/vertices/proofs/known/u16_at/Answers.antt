@@ -1,11 +1,7 @@
 -- `u16_at`: the number of 2 bytes is the first byte and 256 times the second.
-use Prim.Native.Nat.{◌+◌}
 use native.Mathlib.Omega.{arith}
-use Rattle.sections.proofs.LeLaws.{le-add, le-one}
+use Rattle.vertices.proofs.RunLaws.{le_two}
 use Rattle.vertices.proofs.known.u16_at.Goals as goal
 
 pub returns : goal.returns
-returns c =
-    let s = c.args.b.now in
-    let off = c.args.off in
-    omega (arith, le-add 1 1 s off (omega arith), le-one s off (omega arith), le-one s (off + 1) (omega arith))
+returns c = omega (arith, c.from_le_bytes.ensures, le_two c.args.b.now c.args.off c.requires)

@@ -2,5 +2,5 @@
 use native.Mathlib.Omega.{arith}
 use Rattle.vertices.proofs.runs.encode_block.Goals as goal
 
-pub encode_small-requires : goal.encode_small-requires
-encode_small-requires c = (omega arith, omega arith, c.large_floats.ensures (omega arith))
+pub convert_each-requires-clause-takes : goal.convert_each-requires-clause-takes
+convert_each-requires-clause-takes c = λ i h. omega (arith, c.greatest_size.ensures i h)

@@ -1,10 +1,6 @@
 -- One lane a turn.
-use Prim.Native.Nat.{◌-◌, ◌≤◌}
 use Rattle.vertices.specs.Inner.Lanes.{BlockWritten}
 use Rattle.vertices.proofs.unify.unify_block.Given as goal
 
 abbrev pub invariant-loop-j : goal.invariant-loop-j
-invariant-loop-j l = (l.j ≤ 21) × BlockWritten l.plan l.data l.stride l.first l.end l.j l.initial.out l.out
-
-abbrev pub decreases-loop-j : goal.decreases-loop-j
-decreases-loop-j l = 21 - l.j
+invariant-loop-j l = BlockWritten l.plan l.data l.stride l.first l.end l.j l.initial.out l.out

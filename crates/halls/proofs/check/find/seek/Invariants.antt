@@ -2,11 +2,12 @@
 use mathlib.Core.Path.{◌≡◌}
 use Prim.Native.Nat.{◌-◌, ◌≤◌}
 use lib.ListN.{length}
+use Rattle.halls.specs.Inner.Kinds.{kind_number}
 use Rattle.halls.specs.Inner.Seeking.{sought}
 use Rattle.halls.proofs.check.find.seek.Given as goal
 
-abbrev pub invariant-loop-place : goal.invariant-loop-place
-invariant-loop-place l = (l.place ≤ length l.list) × (sought l.list l.place l.kind l.left ≡ sought l.list l.at l.kind l.skip)
+abbrev pub invariant-loop-found : goal.invariant-loop-found
+invariant-loop-found l = (l.place ≤ length l.list) × (sought l.list l.place (kind_number l.fn.kind) l.left ≡ sought l.list l.at (kind_number l.fn.kind) l.skip)
 
-abbrev pub decreases-loop-place : goal.decreases-loop-place
-decreases-loop-place l = length l.list - l.place
+abbrev pub decreases-loop-found : goal.decreases-loop-found
+decreases-loop-found l = length l.list - l.place

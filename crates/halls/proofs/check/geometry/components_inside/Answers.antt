@@ -8,15 +8,15 @@ use Rattle.halls.proofs.check.geometry.components_inside.Goals as goal
 pub returns-then-position-eq0 : goal.returns-then-position-eq0
 unfolding inside_stride
 returns-then-position-eq0 c =
-    let e = sym c.in-Component.is ∙ c.component.ensures in
+    let e = sym c.in-Some.is ∙ c.component.ensures in
     rw (position_empty (component_of _ 0) _ e c.if-position-eq0.true)
 
 pub returns-else-position-eq0 : goal.returns-else-position-eq0
 unfolding inside_stride
 returns-else-position-eq0 c =
-    let e = sym c.in-Component.is ∙ c.component.ensures in
+    let e = sym c.in-Some.is ∙ c.component.ensures in
     rw (position-sized (component_of _ 0) _ e c.if-position-eq0.false, ← c.size_in_bytes.ensures)
 
-pub returns-in-Missing : goal.returns-in-Missing
+pub returns-in-None : goal.returns-in-None
 unfolding inside_stride
-returns-in-Missing c = rw (position-missing (component_of _ 0) (sym c.in-Missing.is ∙ c.component.ensures))
+returns-in-None c = rw (position-missing (component_of _ 0) (sym c.in-None.is ∙ c.component.ensures))

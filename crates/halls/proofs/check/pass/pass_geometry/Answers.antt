@@ -17,5 +17,5 @@ geometry_lowest-found-requires c = rw (slice-rest c.args.list.now c.args.t.at) (
 pub returns : goal.returns
 returns c =
     let found = c.geometry_lowest-found.ensures in
-    let lowest = c.lower.ensures in
-    geometry-turned _ _ c.requires.0 _ _ c.requires.1 _ _ _ _ _ _ c.if-t-eq0.false c.u16_le-shader.ensures c.answered-answer.ensures (found ∙ ap (λ (l : List ℕ). lowest_of (front_geometry l)) (slice-rest c.args.list.now c.args.t.at)) (c.lower-lowest.ensures ∙ rw lowest) (omega arith) c.one_less.ensures
+    let lowest = c.min.ensures in
+    geometry-turned _ _ c.requires.0 _ _ c.requires.1 _ _ _ _ _ _ c.if-t-eq0.false c.u16_le-shader.ensures c.answered-answer.ensures (found ∙ ap (λ (l : List ℕ). lowest_of (front_geometry l)) (slice-rest c.args.list.now c.args.t.at)) (c.min-lowest.ensures ∙ rw lowest) (omega arith) c.saturating_sub.ensures

@@ -1,33 +1,31 @@
 -- The check of the old hall decides, then whether there is a last model; the rest is `append_geometry`'s.
+use Rattle.std.specs.Prelude.{Err}
 use borrow.Author.Rules.{rules}
-use mathlib.Core.Path.{◌≡◌, sym, ◌∙◌}
+use mathlib.Core.Path.{◌≡◌, sym, ap, ◌∙◌}
 use native.Mathlib.Omega.{arith}
 use Rattle.halls.specs.Calls.{Given}
-use Rattle.halls.specs.Checks.{hall_verdict}
-use Rattle.halls.specs.Inner.Walk.{Counted}
-use Rattle.halls.specs.declared.check.check.Verdict.TheVariants.{Sound}
 use Rattle.halls.proofs.NearLaws.{last_found}
+use Rattle.halls.proofs.check.ToldLaws.{where-sound, where-fails}
 use Rattle.halls.proofs.edit.AddedGeometry.{no-model}
 use Rattle.halls.proofs.edit.AddedModel.{added-few}
-use Rattle.halls.proofs.edit.StepLaws.{hall_in, Old, old, lowest_fails, lowest_sound, stays_old, answered}
+use Rattle.halls.proofs.edit.StepLaws.{old, stays_refused, answered}
 use Rattle.halls.proofs.edit.add_geometry.add_geometry.Goals as goal
 
-pub returns-then-found-lt-PASSED : goal.returns-then-found-lt-PASSED
-returns-then-found-lt-PASSED c = answered c.refused_by.ensures (stays_old _ _ _ _ (lowest_fails _ _ _ c.survey_first-found.ensures.examined c.if-found-lt-PASSED.true))
+pub returns-in_err-found : goal.returns-in_err-found
+returns-in_err-found c =
+    let answer : c.from_residual.result ≡ Err c.in_err-found.field-0.0 = search rules in
+    answered answer (stays_refused _ _ _ (where-fails _ c.survey_first.ensures c.in_err-found.was))
 
 pub returns-then-found-eq0 : goal.returns-then-found-eq0
-returns-then-found-eq0 c = let passed : let a = c.args in hall_verdict a.hall.now a.n ≡ Sound = lowest_sound _ _ _ c.survey_first-found.ensures.examined c.if-found-lt-PASSED.false in
-    let sound : let a = c.args in Old a.hall.now a.n = old _ _ (λ i. search rules) passed in
-    let counted : let a = c.args in Counted (hall_in a.hall.now a.n) c.survey_first-found.result.summary = c.survey_first-found.ensures.examined.counted passed in
+returns-then-found-eq0 c =
+    let found = where-sound _ c.survey_first.ensures c.in_ok-found.was in
+    let hall = old _ _ (λ i. search rules) found.0 in
     let given : Given = let a = c.args in record { shader = a.shader; declaration = a.declaration; stride = a.stride; count = a.count; content = a.content.now; indices = a.indices.now } in
-    answered c.refused.ensures (no-model _ _ sound given (sym counted.models ∙ c.if-found-eq0.true))
+    answered (ap Err c.by.ensures) (no-model _ _ hall given (sym found.1.counted.models ∙ c.if-found-eq0.true))
 
 pub append_geometry-requires : goal.append_geometry-requires
-append_geometry-requires c = let passed : let a = c.args in hall_verdict a.hall.now a.n ≡ Sound = lowest_sound _ _ _ c.survey_first-found.ensures.examined c.if-found-lt-PASSED.false in
-    let sound : let a = c.args in Old a.hall.now a.n = old _ _ (λ i. search rules) passed in
-    let counted : let a = c.args in Counted (hall_in a.hall.now a.n) c.survey_first-found.result.summary = c.survey_first-found.ensures.examined.counted passed in
-    let few = added-few _ _ 0 0 sound _ counted in (
-      passed,
-      counted,
-      last_found _ _ sound.records-are (c.survey_first-found.ensures.nearest passed) counted.models c.if-found-eq0.false (omega (arith, few)),
-    )
+append_geometry-requires c =
+    let found = where-sound _ c.survey_first.ensures c.in_ok-found.was in
+    let hall = old _ _ (λ i. search rules) found.0 in
+    let few = added-few _ _ 0 0 hall _ found.1.counted in
+    (found.0, found.1.counted, last_found _ _ hall.records-are found.1.nearest found.1.counted.models c.if-found-eq0.false (omega (arith, few)))

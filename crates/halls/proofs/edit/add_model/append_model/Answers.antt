@@ -1,21 +1,26 @@
 -- The result's checks are those of its limits and its length.
+use Rattle.std.specs.Prelude.{Err}
+use mathlib.Core.Path.{◌≡◌, ap, ◌∙◌}
 use borrow.Author.Rules.{rules}
 use native.Mathlib.Omega.{arith}
+use Rattle.halls.proofs.check.ToldLaws.{told-passed, told-fails}
 use Rattle.halls.proofs.edit.AddedModel.{added-judged, added-long, added-done}
 use Rattle.halls.proofs.edit.StepLaws.{old, answered}
 use Rattle.halls.proofs.edit.add_model.append_model.Goals as goal
 
-pub returns-then-lowest-lt-PASSED : goal.returns-then-lowest-lt-PASSED
-returns-then-lowest-lt-PASSED c =
+pub returns-in_err-verdict_of : goal.returns-in_err-verdict_of
+returns-in_err-verdict_of c =
     let hall = old _ _ (λ i. search rules) c.requires.0 in
-    answered c.refused_by.ensures (added-judged _ _ _ _ hall _ c.requires.1 _ c.limits_lowest-lowest.ensures c.if-lowest-lt-PASSED.true)
+    let told = told-fails c.verdict_of.ensures c.in_err-verdict_of.was in
+    let answer : c.from_residual.result ≡ Err c.in_err-verdict_of.field-0.0 = search rules in
+    answered (answer ∙ ap Err told.1) (added-judged _ _ _ _ hall _ c.requires.1 _ c.limits_lowest.ensures told.0)
 
 pub returns-then-hall-n-lt12 : goal.returns-then-hall-n-lt12
 returns-then-hall-n-lt12 c =
     let hall = old _ _ (λ i. search rules) c.requires.0 in
-    answered c.refused.ensures (added-long _ _ _ _ hall _ c.requires.1 _ c.limits_lowest-lowest.ensures c.if-lowest-lt-PASSED.false (omega (arith, c.requires.2)))
+    added-long _ _ _ _ hall _ c.requires.1 _ c.limits_lowest.ensures (told-passed c.verdict_of.ensures c.in_ok-verdict_of.was) (omega (arith, c.requires.2))
 
 pub returns : goal.returns
 returns c =
     let hall = old _ _ (λ i. search rules) c.requires.0 in
-    added-done _ _ _ _ hall _ c.requires.1 _ c.limits_lowest-lowest.ensures c.if-lowest-lt-PASSED.false _ (omega (arith, c.requires.2)) c.put_model_numbers.ensures
+    added-done _ _ _ _ hall _ c.requires.1 _ c.limits_lowest.ensures (told-passed c.verdict_of.ensures c.in_ok-verdict_of.was) _ (omega (arith, c.requires.2)) c.put_model_numbers.ensures

@@ -1,38 +1,57 @@
--- By the width of the indices; of width 0 there are none.
+-- By the width of the indices; without items there are no triangles.
+use Rattle.std.specs.Prelude.{Some}
 use mathlib.Core.Path.{◌≡◌, ap, sym, ◌∙◌}
 use mathlib.Core.List.{List}
-use Prim.Native.Nat.{ℕ, suc, ◌*◌}
+use Prim.Native.Nat.{ℕ, suc, ◌*◌, ◌/◌, ◌≤◌}
+use native.Mathlib.Nat.{mul-div_cancel}
 use native.Mathlib.Omega.{arith}
-use lib.ListN.{length}
+use lib.ListN.{length, take}
 use Rattle.vertices.specs.Runs.{numbers}
 use Rattle.halls.specs.Checks.{triangles_of}
 use Rattle.halls.specs.Every.{every}
 use Rattle.halls.specs.Inner.Judging.{indices_lowest_of}
-use Rattle.halls.specs.Inner.View.{HeldIn, held_count, indices_in}
+use Rattle.halls.specs.Inner.View.{HeldIn, index_bytes, held_count, indices_in}
+use Rattle.halls.specs.declared.read.view.IndexItems.{IndexItems}
 use Rattle.halls.specs.declared.read.view.IndexView.{IndexView}
-use Rattle.halls.proofs.read.HeldLaws.{no_items, items_by, held_by_lem, long_by, no_width}
+use Rattle.vertices.proofs.RunLaws.{numbers-length}
+use Rattle.halls.proofs.check.ScanLaws.{numbers-take}
+use Rattle.halls.proofs.read.HeldLaws.{no_items, items_by, held_by_lem, long_by}
 use Rattle.halls.proofs.edit.judge_read.items_lowest.Goals as goal
 
 -- the triangles' bytes are all of them, and the scan's indices the view's
-module _ (v : IndexView) (raw : List ℕ) (w : ℕ) (e : v.width ≡ suc w) (triangles : ℕ) (h : HeldIn v raw) (k : held_count v ≡ 3 * triangles) where
+module _ (v : IndexView) (raw : List ℕ) (i : IndexItems) (e : v.items ≡ Some i) (w : ℕ) (width : index_bytes i.width ≡ suc w) (triangles : ℕ) (h : HeldIn v raw)
+    (k : held_count v ≡ 3 * triangles) where
+  counted : v.count ≡ 3 * triangles
+  counted = sym (held_by_lem v raw i e) ∙ k
+
   long : 3 * triangles * suc w ≡ length raw
-  long = ap (λ (n : ℕ). n * suc w) (sym k ∙ held_by_lem v raw w e) ∙ sym (long_by v raw w e h)
+  long = sym (long_by v raw i e h ∙ ap (λ (n : ℕ). v.count * n) width ∙ ap (λ (n : ℕ). n * suc w) counted)
 
-  scanned : {r : ℕ} (limit : ℕ) → r ≡ indices_lowest_of limit (numbers (suc w) (3 * triangles) raw) → r ≡ indices_lowest_of limit (indices_in v raw).items
-  scanned limit q = q ∙ ap (indices_lowest_of limit) (ap (λ (n : ℕ). numbers (suc w) n raw) (sym k ∙ held_by_lem v raw w e) ∙ sym (items_by v raw w e))
+  fit : 3 * triangles ≤ length (numbers (suc w) (length raw / suc w) raw)
+  fit =
+      let whole : length raw / suc w ≡ 3 * triangles = ap (λ (n : ℕ). n / suc w) (sym long) ∙ mul-div_cancel (3 * triangles) (omega arith) in
+      omega (arith, whole, numbers-length (suc w) (length raw / suc w) raw)
 
-pub short_triangles_lowest-requires : goal.short_triangles_lowest-requires
-short_triangles_lowest-requires c = omega (arith, long c.args.view c.args.raw.now 1 c.if-view-eq2.true c.args.triangles c.requires.0 c.requires.1)
-
-pub returns-then-view-eq2 : goal.returns-then-view-eq2
-returns-then-view-eq2 c = scanned c.args.view c.args.raw.now 1 c.if-view-eq2.true c.args.triangles c.requires.0 c.requires.1 _ c.short_triangles_lowest.ensures
+  scanned : {r : ℕ} (limit : ℕ) → r ≡ indices_lowest_of limit (take (3 * triangles) (numbers (suc w) (length raw / suc w) raw)) → r ≡ indices_lowest_of limit (indices_in v raw).items
+  scanned limit q =
+      let all : take (3 * triangles) (numbers (suc w) (length raw / suc w) raw) ≡ numbers (suc w) (3 * triangles) raw =
+      numbers-take (suc w) (3 * triangles) (length raw / suc w) raw (omega (arith, fit, numbers-length (suc w) (length raw / suc w) raw)) in
+      let seen : (indices_in v raw).items ≡ numbers (suc w) (3 * triangles) raw =
+      items_by v raw i e ∙ ap (λ (n : ℕ). numbers n v.count raw) width ∙ ap (λ (n : ℕ). numbers (suc w) n raw) counted in
+      q ∙ ap (indices_lowest_of limit) (all ∙ sym seen)
 
 pub triangles_lowest-requires : goal.triangles_lowest-requires
-triangles_lowest-requires c = omega (arith, long c.args.view c.args.raw.now 3 c.if-view-eq4.true c.args.triangles c.requires.0 c.requires.1)
+triangles_lowest-requires c = fit c.args.view c.args.raw.now c.in-Some.items c.in-Some.is 1 (ap index_bytes c.in-Two.is) c.args.triangles c.requires.0 c.requires.1
 
-pub returns-then-view-eq4 : goal.returns-then-view-eq4
-returns-then-view-eq4 c = scanned c.args.view c.args.raw.now 3 c.if-view-eq4.true c.args.triangles c.requires.0 c.requires.1 _ c.triangles_lowest.ensures
+pub returns-in-Two : goal.returns-in-Two
+returns-in-Two c = scanned c.args.view c.args.raw.now c.in-Some.items c.in-Some.is 1 (ap index_bytes c.in-Two.is) c.args.triangles c.requires.0 c.requires.1 _ (rw c.from-limit.ensures at c.triangles_lowest.ensures)
 
-pub returns : goal.returns
+pub triangles_lowest-requires-in-Four : goal.triangles_lowest-requires-in-Four
+triangles_lowest-requires-in-Four c = fit c.args.view c.args.raw.now c.in-Some.items c.in-Some.is 3 (ap index_bytes c.in-Four.is) c.args.triangles c.requires.0 c.requires.1
+
+pub returns-in-Four : goal.returns-in-Four
+returns-in-Four c = scanned c.args.view c.args.raw.now c.in-Some.items c.in-Some.is 3 (ap index_bytes c.in-Four.is) c.args.triangles c.requires.0 c.requires.1 _ (rw c.from-limit.ensures at c.triangles_lowest-in-Four.ensures)
+
+pub returns-in-None : goal.returns-in-None
 unfolding indices_lowest_of every triangles_of
-returns c = rw (no_items c.args.view c.args.raw.now (no_width c.args.view c.args.raw.now c.requires.0 c.if-view-eq2.false c.if-view-eq4.false))
+returns-in-None c = rw (no_items c.args.view c.args.raw.now c.in-None.is)

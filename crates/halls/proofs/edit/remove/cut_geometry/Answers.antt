@@ -1,6 +1,7 @@
 -- The model's record gets 2 bytes shorter, and the bytes of the geometry and of its entry go: what is left is the hall without it.
 use borrow.Author.Rules.{rules}
-use mathlib.Core.Path.{refl}
+use mathlib.Core.Path.{◌≡◌, refl}
+use Prim.Native.Nat.{ℕ}
 use native.Mathlib.Omega.{arith}
 use Rattle.sections.specs.Le.{field}
 use Rattle.halls.proofs.edit.RemovedGeometry.{GeometryThere, GeometryThere_lem, Spot, spot, geometry-cut}
@@ -14,87 +15,80 @@ sound c = old _ _ (λ i. search rules) c.requires.0
 there : (c : After-slice_known-1) → let a = c.args in GeometryThere (hall_in a.hall.now a.n) a.model a.geometry a.places
 there c = GeometryThere_lem _ _ _ _ c.requires.1
 
-facts : (c : After-slice_known-1) → let a = c.args in Spot a.hall.now a.n (sound c) a.model a.geometry a.places (there c) (field 4 a.hall.now a.places.indices)
-facts c = spot _ _ (sound c) _ _ _ (there c) _ refl
+-- by the length of the indices' record
+facts : (k : After-slice_known-1) {n : ℕ} → let a = k.args in n ≡ field 4 a.hall.now a.places.indices → Spot a.hall.now a.n (sound k) a.model a.geometry a.places (there k) n
+facts k e = spot _ _ (sound k) _ _ _ (there k) _ e
 
 pub overflow_add-entry : goal.overflow_add-entry
 overflow_add-entry c =
     let k = (goal.at.overflow_add-entry c).After-slice_known-1 in
-    let f = (facts k) in omega (arith, f.entry-low, f.Indices-low, f.end_is, f.end_low)
+    let f = facts k refl in omega (arith, f.entry-low, f.Indices-low, f.end_is, f.end_low)
 
 pub overflow_mul-entry : goal.overflow_mul-entry
 overflow_mul-entry c =
     let k = (goal.at.overflow_mul-entry c).After-slice_known-1 in
-    let f = (facts k) in omega (arith, f.entry-low, f.end_is, f.end_low)
+    let f = facts k refl in omega (arith, f.entry-low, f.end_is, f.end_low)
 
 pub overflow_add-entry-2 : goal.overflow_add-entry-2
 overflow_add-entry-2 c =
     let k = (goal.at.overflow_add-entry-2 c).After-slice_known-1 in
-    let f = (facts k) in omega (arith, f.entry-low, f.end_is, f.end_low)
+    let f = facts k refl in omega (arith, f.entry-low, f.end_is, f.end_low)
 
 pub overflow_add-end : goal.overflow_add-end
 overflow_add-end c =
     let k = (goal.at.overflow_add-end c).After-slice_known-1 in
-    let f = (facts k) in omega (arith, f.Indices-low)
+    let f = facts k refl in omega (arith, f.Indices-low)
 
 pub overflow_add-end-2 : goal.overflow_add-end-2
 overflow_add-end-2 c =
     let k = (goal.at.overflow_add-end-2 c).After-slice_known-1 in
-    let f = (facts k) in omega (arith, c.u32_le.ensures, f.end_low)
+    let f = facts k refl in omega (arith, c.u32_le.ensures, f.end_low)
 
 pub overflow_sub-length : goal.overflow_sub-length
 overflow_sub-length c =
     let k = (goal.at.overflow_sub-length c).After-slice_known-1 in
-    let f = (facts k) in omega (arith, c.u32_le-length.ensures, f.some-entry)
+    let f = facts k refl in omega (arith, c.u32_le-length.ensures, f.some-entry)
 
 pub overflow_add-entry-3 : goal.overflow_add-entry-3
 overflow_add-entry-3 c =
     let k = (goal.at.overflow_add-entry-3 c).After-slice_known-1 in
-    let read : let a = c.args in Spot a.hall.now a.n (sound k) a.model a.geometry a.places (there k) c.u32_le.result = spot _ _ (sound k) _ _ _ (there k) _ c.u32_le.ensures in
-    let f = read in omega (arith, f.entry-low, f.end_is, f.end_low)
+    let f = facts k c.u32_le.ensures in omega (arith, f.entry-low, f.end_is, f.end_low)
 
 pub overflow_add-entry-4 : goal.overflow_add-entry-4
 overflow_add-entry-4 c =
     let k = (goal.at.overflow_add-entry-4 c).After-slice_known-1 in
-    let read : let a = c.args in Spot a.hall.now a.n (sound k) a.model a.geometry a.places (there k) c.u32_le.result = spot _ _ (sound k) _ _ _ (there k) _ c.u32_le.ensures in
-    let f = read in omega (arith, f.entry-low, f.end_is, f.end_low)
+    let f = facts k c.u32_le.ensures in omega (arith, f.entry-low, f.end_is, f.end_low)
 
 pub overflow_sub-at : goal.overflow_sub-at
 overflow_sub-at c =
     let k = (goal.at.overflow_sub-at c).After-slice_known-1 in
-    let read : let a = c.args in Spot a.hall.now a.n (sound k) a.model a.geometry a.places (there k) c.u32_le.result = spot _ _ (sound k) _ _ _ (there k) _ c.u32_le.ensures in
-    read.entry-low
+    let f = facts k c.u32_le.ensures in omega (arith, f.entry-low)
 
 pub overflow_sub-at-2 : goal.overflow_sub-at-2
 overflow_sub-at-2 c =
     let k = (goal.at.overflow_sub-at-2 c).After-slice_known-1 in
-    let read : let a = c.args in Spot a.hall.now a.n (sound k) a.model a.geometry a.places (there k) c.u32_le.result = spot _ _ (sound k) _ _ _ (there k) _ c.u32_le.ensures in
-    let f = read in omega (arith, f.entry-low)
+    let f = facts k c.u32_le.ensures in omega (arith, f.entry-low)
 
 pub close_gap-requires : goal.close_gap-requires
 close_gap-requires c =
     let k = (goal.at.close_gap-requires c).After-slice_known-1 in
-    let read : let a = c.args in Spot a.hall.now a.n (sound k) a.model a.geometry a.places (there k) c.u32_le.result = spot _ _ (sound k) _ _ _ (there k) _ c.u32_le.ensures in
-    let f = read in
+    let f = facts k c.u32_le.ensures in
     (omega (arith, f.end_is), f.end_low, omega (arith, (sound k).within))
 
 pub overflow_sub-result : goal.overflow_sub-result
 overflow_sub-result c =
     let k = (goal.at.overflow_sub-result c).After-slice_known-1 in
-    let read : let a = c.args in Spot a.hall.now a.n (sound k) a.model a.geometry a.places (there k) c.u32_le.result = spot _ _ (sound k) _ _ _ (there k) _ c.u32_le.ensures in
-    let f = read in omega (arith, f.end_is)
+    let f = facts k c.u32_le.ensures in omega (arith, f.end_is)
 
 pub overflow_sub-result-2 : goal.overflow_sub-result-2
 overflow_sub-result-2 c =
     let k = (goal.at.overflow_sub-result-2 c).After-slice_known-1 in
-    let read : let a = c.args in Spot a.hall.now a.n (sound k) a.model a.geometry a.places (there k) c.u32_le.result = spot _ _ (sound k) _ _ _ (there k) _ c.u32_le.ensures in
-    let f = read in omega (arith, f.end_low)
+    let f = facts k c.u32_le.ensures in omega (arith, f.end_low)
 
 pub overflow_sub-result-3 : goal.overflow_sub-result-3
 overflow_sub-result-3 c =
     let k = (goal.at.overflow_sub-result-3 c).After-slice_known-1 in
-    let read : let a = c.args in Spot a.hall.now a.n (sound k) a.model a.geometry a.places (there k) c.u32_le.result = spot _ _ (sound k) _ _ _ (there k) _ c.u32_le.ensures in
-    let f = read in omega (arith, f.entry-low, f.end_is, f.end_low)
+    let f = facts k c.u32_le.ensures in omega (arith, f.entry-low, f.end_is, f.end_low)
 
 pub returns : goal.returns
 returns c =

@@ -1,9 +1,10 @@
 -- No such geometry refuses by 21; one that is found is cut out.
+use Rattle.std.specs.Prelude.{Err}
 use borrow.Author.Rules.{rules}
-use mathlib.Core.Path.{sym, ◌∙◌}
+use mathlib.Core.Path.{sym, ◌∙◌, ap}
 use native.Mathlib.Omega.{arith}
 use lib.ListN.{length-take}
-use Rattle.halls.proofs.edit.RemovedGeometry.{place_found, geometry-lacks}
+use Rattle.halls.proofs.edit.RemovedGeometry.{geometry-lacks}
 use Rattle.halls.proofs.edit.StepLaws.{Old, old}
 use Rattle.halls.proofs.edit.remove.remove_geometry_in_hall.Goals as goal
 use Rattle.halls.proofs.edit.remove.remove_geometry_in_hall.Goals.{After-slice_known-1}
@@ -26,13 +27,7 @@ geometry_at-requires c =
     let k = (goal.at.geometry_at-requires c).After-slice_known-1 in
     ((sound k).records-are, c.requires.1)
 
-pub cut_geometry-requires : goal.cut_geometry-requires
-cut_geometry-requires c = (
-  c.requires.0,
-  place_found _ _ _ _ (sym c.geometry_at.ensures ∙ c.in-At.is),
-)
-
-pub returns-in-Absent : goal.returns-in-Absent
-returns-in-Absent c =
-    let k = (goal.at.returns-in-Absent c).After-slice_known-1 in
-    geometry-lacks _ _ (sound k) _ _ _ (sym c.geometry_at.ensures ∙ c.in-Absent.is) c.refused.ensures
+pub returns-in-None : goal.returns-in-None
+returns-in-None c =
+    let k = (goal.at.returns-in-None c).After-slice_known-1 in
+    geometry-lacks _ _ (sound k) _ _ _ (sym c.geometry_at.ensures ∙ c.in-None.is) (ap Err c.by.ensures)

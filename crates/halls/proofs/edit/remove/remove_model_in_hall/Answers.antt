@@ -1,6 +1,7 @@
 -- No such model refuses by 21. Otherwise the bytes from its place to its end are taken out, which leaves the other models' bytes, and a sound hall.
+use Rattle.std.specs.Prelude.{Err}
 use borrow.Author.Rules.{rules}
-use mathlib.Core.Path.{◌≡◌, sym, ◌∙◌}
+use mathlib.Core.Path.{◌≡◌, sym, ◌∙◌, ap}
 use Prim.Native.Nat.{◌+◌, ◌≤◌}
 use native.Mathlib.Omega.{arith}
 use lib.ListN.{length, take, length-take}
@@ -29,7 +30,7 @@ spans c = model-spans _ _ (sound c) _ _ _ (model c) (ends c)
 pub returns-then-nearest-model : goal.returns-then-nearest-model
 returns-then-nearest-model c =
     let hall : Old c.args.hall.now c.args.n = old _ _ (λ i. search rules) c.requires.0 in
-    removed-none _ _ hall _ _ (sym (model-absent _ _ hall.records-are c.requires.1 c.if-nearest-model.true)) c.refused.ensures
+    removed-none _ _ hall _ _ (sym (model-absent _ _ hall.records-are c.requires.1 c.if-nearest-model.true)) (ap Err c.by.ensures)
 
 pub slice_bounds-seek-end : goal.slice_bounds-seek-end
 slice_bounds-seek-end c =

@@ -1,10 +1,10 @@
 -- No such geometry refuses by 21; one that is found is handed on with its place.
+use Rattle.std.specs.Prelude.{Err}
 use borrow.Author.Rules.{rules}
-use mathlib.Core.Path.{sym, ◌∙◌}
+use mathlib.Core.Path.{sym, ◌∙◌, ap}
 use native.Mathlib.Omega.{arith}
 use lib.ListN.{length-take}
 use Rattle.halls.proofs.edit.NewIndices.{replaced-nowhere}
-use Rattle.halls.proofs.check.SpotLaws.{Found-there}
 use Rattle.halls.proofs.edit.StepLaws.{Old, old, answered}
 use Rattle.halls.proofs.edit.replace_indices.replace_in_hall.Goals as goal
 use Rattle.halls.proofs.edit.replace_indices.replace_in_hall.Goals.{After-slice_known-1}
@@ -25,14 +25,9 @@ slice_bounds-geometry_at-end-2 c =
 pub geometry_at-requires : goal.geometry_at-requires
 geometry_at-requires c =
     let k = (goal.at.geometry_at-requires c).After-slice_known-1 in
-    ((sound k).records-are, c.requires.1.nearest c.requires.0)
+    ((sound k).records-are, c.requires.1.nearest)
 
-pub replace_in_geometry-requires : goal.replace_in_geometry-requires
-replace_in_geometry-requires c =
-    let a = c.args in
-    (c.requires.0, Found-there a.hall.now a.n a.model a.geometry _ (sym c.in-At.is ∙ c.geometry_at.ensures), c.requires.1.examined.counted c.requires.0)
-
-pub returns-in-Absent : goal.returns-in-Absent
-returns-in-Absent c =
-    let k = (goal.at.returns-in-Absent c).After-slice_known-1 in
-    answered c.refused.ensures (replaced-nowhere _ _ _ _ _ (sound k) (sym c.in-Absent.is ∙ c.geometry_at.ensures))
+pub returns-in-None : goal.returns-in-None
+returns-in-None c =
+    let k = (goal.at.returns-in-None c).After-slice_known-1 in
+    answered (ap Err c.by.ensures) (replaced-nowhere _ _ _ _ _ (sound k) (sym c.in-None.is ∙ c.geometry_at.ensures))

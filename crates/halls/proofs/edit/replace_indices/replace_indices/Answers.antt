@@ -1,12 +1,15 @@
 -- A check that fails on the old hall refuses; a sound hall is handed on with what it comes to.
-use Rattle.halls.proofs.edit.StepLaws.{lowest_fails, lowest_sound, stays_old, answered}
+use Rattle.std.specs.Prelude.{Err}
+use borrow.Author.Rules.{rules}
+use mathlib.Core.Path.{◌≡◌}
+use Rattle.halls.proofs.check.ToldLaws.{where-sound, where-fails}
+use Rattle.halls.proofs.edit.StepLaws.{stays_refused, answered}
 use Rattle.halls.proofs.edit.replace_indices.replace_indices.Goals as goal
 
-pub returns-then-found-lt-PASSED : goal.returns-then-found-lt-PASSED
-returns-then-found-lt-PASSED c = answered c.refused_by.ensures (stays_old _ _ _ _ (lowest_fails _ _ _ c.survey_first-found.ensures.examined c.if-found-lt-PASSED.true))
+pub returns-in_err-found : goal.returns-in_err-found
+returns-in_err-found c =
+    let answer : c.from_residual.result ≡ Err c.in_err-found.field-0.0 = search rules in
+    answered answer (stays_refused _ _ _ (where-fails _ c.survey_first.ensures c.in_err-found.was))
 
 pub replace_in_hall-requires : goal.replace_in_hall-requires
-replace_in_hall-requires c =
-    let x = c.survey_first-found.ensures in
-    let sound = lowest_sound _ _ _ x.examined c.if-found-lt-PASSED.false in
-    (sound, x)
+replace_in_hall-requires c = where-sound _ c.survey_first.ensures c.in_ok-found.was

@@ -1,17 +1,18 @@
 -- A vertex that is not there refuses by 21 and a semantic that is not declared by 22; a component that is found is handed on.
+use Rattle.std.specs.Prelude.{Err}
 use borrow.Author.Rules.{rules}
 use mathlib.Core.Path.{◌≡◌, sym, ap, ◌∙◌}
 use Prim.Native.Nat.{◌+◌}
 use native.Mathlib.Omega.{arith}
-use Rattle.vertices.specs.Declaration.{component_of, declaration_at, found_component}
+use Rattle.vertices.specs.Declaration.{component_of, declaration_at}
 use Rattle.vertices.specs.declared.declaration.VertexDeclaration.{VertexDeclaration}
-use Rattle.halls.proofs.edit.AttributeSet.{component-some, set-no_vertex, set-missing}
+use Rattle.halls.proofs.edit.AttributeSet.{set-no_vertex, set-missing}
 use Rattle.halls.proofs.check.SpotLaws.{Spot, spot, Spot-inside}
 use Rattle.halls.proofs.edit.StepLaws.{old, answered}
 use Rattle.halls.proofs.edit.set_attribute.set_in_geometry.Goals as goal
 use Rattle.halls.proofs.edit.set_attribute.set_in_geometry.Goals.{After-slice_known-1}
 
-here : (c : After-slice_known-1) → let a = c.args in Spot a.hall.now a.n a.model a.geometry a.at
+here : (c : After-slice_known-1) → let a = c.args in Spot a.hall.now a.n a.change.model a.change.geometry a.at
 here c = spot (old _ _ (λ i. search rules) c.requires.0) _ _ _ c.requires.1
 
 pub overflow_add-at : goal.overflow_add-at
@@ -19,31 +20,21 @@ overflow_add-at c =
     let k = (goal.at.overflow_add-at c).After-slice_known-1 in
     omega (arith, Spot-inside (here k))
 
-pub returns-then-u16_le-vertex : goal.returns-then-u16_le-vertex
-returns-then-u16_le-vertex c =
-    let k = (goal.at.returns-then-u16_le-vertex c).After-slice_known-1 in
-    answered c.refused.ensures (set-no_vertex _ _ _ _ _ _ _ (here k) c.u16_le.ensures c.if-u16_le-vertex.true)
+pub returns-then-u16_le-change : goal.returns-then-u16_le-change
+returns-then-u16_le-change c =
+    let k = (goal.at.returns-then-u16_le-change c).After-slice_known-1 in
+    answered (ap Err c.by.ensures) (set-no_vertex _ _ _ _ _ _ _ (here k) c.u16_le.ensures c.if-u16_le-change.true)
 
 pub overflow_add-at-2 : goal.overflow_add-at-2
 overflow_add-at-2 c =
     let k = (goal.at.overflow_add-at-2 c).After-slice_known-1 in
     omega (arith, Spot-inside (here k))
 
-pub set_component-requires : goal.set_component-requires
-set_component-requires c = let looked : let a = c.args in c.component.result ≡ found_component (component_of (declaration_at a.hall.now (a.at + 26)) a.semantic) = let a = c.args in
-    c.component.ensures ∙ ap (λ (d : VertexDeclaration). found_component (component_of d a.semantic)) c.read_declaration.ensures in
-    let p = c.requires in (
-      p.0,
-      p.1,
-      omega (arith, c.u16_le.ensures, c.if-u16_le-vertex.false),
-      component-some _ _ (sym c.in-Component.is ∙ looked),
-    )
-
-pub returns-in-Missing : goal.returns-in-Missing
-returns-in-Missing c =
-    let k = (goal.at.returns-in-Missing c).After-slice_known-1 in
-    let looked : let a = c.args in c.component.result ≡ found_component (component_of (declaration_at a.hall.now (a.at + 26)) a.semantic) = let a = c.args in
-    c.component.ensures ∙ ap (λ (d : VertexDeclaration). found_component (component_of d a.semantic)) c.read_declaration.ensures in
-    answered c.refused-in-Missing.ensures
-    (set-missing _ _ _ _ _ _ c.args.value (here k) (omega (arith, c.u16_le.ensures, c.if-u16_le-vertex.false))
-    (sym c.in-Missing.is ∙ looked))
+pub returns-in-None : goal.returns-in-None
+returns-in-None c =
+    let k = (goal.at.returns-in-None c).After-slice_known-1 in
+    let looked : let a = c.args in c.component.result ≡ (component_of (declaration_at a.hall.now (a.at + 26)) a.change.semantic) = let a = c.args in
+    c.component.ensures ∙ ap (λ (d : VertexDeclaration). (component_of d a.change.semantic)) c.read_declaration.ensures in
+    answered (ap Err c.by-in-None.ensures)
+    (set-missing _ _ _ _ _ _ c.args.change.value (here k) (omega (arith, c.u16_le.ensures, c.if-u16_le-change.false))
+    (sym c.in-None.is ∙ looked))

@@ -1,6 +1,7 @@
 -- Each record is put right behind the one before it.
 use native.Mathlib.Omega.{arith}
 use lib.ListN.{length}
+use Rattle.vertices.specs.Buffer.{or_position_only}
 use Rattle.halls.specs.List.{Vertices, geometry_record, declaration_record, vertices_record, indices_record}
 use Rattle.halls.specs.Inner.Taking.{records_shown}
 use Rattle.halls.specs.Inner.View.{indices_in, numbers_seen}
@@ -14,8 +15,9 @@ unfolding records_shown
 returns c =
     let a = c.args in
     let held = indices_in a.v a.raw.now in
-    let found : Vertices = record { layout = 0; stride = a.stride; count = a.count; content = a.content.now } in
-    four-put a.out.now a.at (length a.content.now) (geometry_record (numbers_seen a.view)) (declaration_record a.declaration) (vertices_record found) (indices_record held)
-    (geometry_record-length (numbers_seen a.view)) (declaration_record-length a.declaration) (vertices_record-length found)
-    (omega (arith, indices_record-length held, items_length_lem a.v a.raw.now, c.requires.2))
-    c.put_geometry.ensures c.put_declaration.ensures c.put_vertex_bytes.ensures c.put_indices.ensures
+    let declared = or_position_only a.b.declaration a.b.vertex_stride in
+    let found : Vertices = record { layout = 0; stride = a.b.vertex_stride; count = a.b.vertex_count; content = a.content.now } in
+    four-put a.out.now a.at (length a.content.now) (geometry_record (numbers_seen a.view)) (declaration_record declared) (vertices_record found) (indices_record held)
+    (geometry_record-length (numbers_seen a.view)) (declaration_record-length declared) (vertices_record-length found)
+    (omega (arith, indices_record-length held, items_length_lem a.v a.raw.now, c.requires.0))
+    c.put_geometry.ensures (rw c.or_position_only.ensures at c.put_declaration.ensures) c.put_vertex_bytes.ensures c.put_indices.ensures

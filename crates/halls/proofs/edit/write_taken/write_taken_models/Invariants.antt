@@ -1,13 +1,8 @@
 -- Each turn writes what is behind one pointer right behind what was written.
-use Prim.Native.Nat.{◌-◌}
-use Rattle.sections.specs.Address.{sections}
 use Rattle.halls.specs.Inner.Taking.{model_bytes}
 use Rattle.halls.proofs.read.Walks.{models_left}
 use Rattle.halls.proofs.read.WritingItems.{WritingItems}
 use Rattle.halls.proofs.edit.write_taken.write_taken_models.Given as goal
 
 abbrev pub invariant-loop-i : goal.invariant-loop-i
-invariant-loop-i l = WritingItems model_bytes (models_left (sections l.system l.graphics) l.pointers) l.initial.out l.at l.out l.i l.next
-
-abbrev pub decreases-loop-i : goal.decreases-loop-i
-decreases-loop-i l = l.n - l.i
+invariant-loop-i l = WritingItems model_bytes (models_left l.limited.reader.now l.pointers) l.initial.out l.at l.out l.i l.next

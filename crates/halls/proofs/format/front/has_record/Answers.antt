@@ -19,4 +19,4 @@ overflow_add-at c =
     omega arith
 
 pub returns : goal.returns
-returns c = Record-kind _ _ _ _ (sym c.ends_inside.ensures ∙ c.if-not-ends_inside.false) (sym c.u32_le.ensures ∙ c.if-u32_le-n.false) c.u16_le.ensures
+returns c = rw (← c.number.ensures) (Record-kind _ _ _ _ (sym c.ends_inside.ensures ∙ c.if-not-ends_inside.false) (sym c.u32_le.ensures ∙ c.if-u32_le-n.false) c.u16_le.ensures)

@@ -7,4 +7,4 @@ pub returns : goal.returns
 unfolding held_at
 returns c =
     let content = c.content_of-content.ensures in
-    record { content-is = content.0; held-is = rw (c.above.ensures.0, c.u32_le.ensures, content.0); small = content.1; few = omega arith }
+    record { content-is = content.0; held-is = rw (c.saturating_sub.ensures, c.u32_le.ensures, content.0); small = content.1; few = omega arith }

@@ -9,4 +9,4 @@ pub returns : goal.returns
 unfolding bytes
 returns c =
     let body = Edited-fits 4 c.put_u32_le.ensures (omega arith) in
-    Edited-behind _ _ _ 4 2 body refl refl c.put_u16_le.ensures (omega arith)
+    rw (← c.number.ensures) (Edited-behind _ _ _ 4 2 body refl refl c.put_u16_le.ensures (omega arith))

@@ -4,8 +4,8 @@ use lib.ListN.{length}
 use Rattle.halls.proofs.format.TriangleLaws.{Counting}
 use Rattle.halls.proofs.format.triangles.triangle_count.Given as goal
 
-abbrev pub invariant-loop-at : goal.invariant-loop-at
-invariant-loop-at l = Counting l.list l.at l.awaited l.total
+abbrev pub invariant-loop-found : goal.invariant-loop-found
+invariant-loop-found l = Counting l.list l.at l.awaited l.total
 
-abbrev pub decreases-loop-at : goal.decreases-loop-at
-decreases-loop-at l = length l.list - l.at
+abbrev pub decreases-loop-found : goal.decreases-loop-found
+decreases-loop-found l = length l.list - l.at

@@ -1,42 +1,51 @@
 -- Check 1, then no header or the models behind one.
-use mathlib.Core.Path.{refl, sym, ◌∙◌}
-use native.Mathlib.Omega.{arith}
+use mathlib.Core.Path.{refl, sym, ap, ◌∙◌}
 use lib.ListN.{length}
-use Rattle.sections.specs.Address.{sections}
+use Rattle.std.specs.Prelude.{Ok, Err}
 use Rattle.sections.proofs.AddressLaws.{limit-each}
 use Rattle.sections.proofs.EditLaws.{overwrite-none}
 use Rattle.halls.specs.Listing.{hall_list}
-use Rattle.halls.proofs.read.ListingLaws.{limit_exceeded, header_found, header-missing, shown}
+use Rattle.halls.proofs.read.ListingLaws.{Shown, limit_exceeded, header_found, header-missing, shown}
 use Rattle.halls.proofs.read.list.hall_list.Goals as goal
 
-pub returns-then-not-within_limit : goal.returns-then-not-within_limit
-returns-then-not-within_limit c =
+over : (c : goal.After-by) → Shown (hall_list c.args.reader.now c.args.va (length c.args.list.now)) c.args.list.now (Err c.by.result) c.args.list.now
+over c =
     let a = c.args in
-    let s = sections a.system.now a.graphics.now in
-    let over = sym c.within_limit.ensures ∙ c.if-not-within_limit.true in
-    shown (hall_list s a.va (length a.list.now)) _ a.list.now (limit_exceeded s a.va (length a.list.now) over) c.refused.ensures refl
+    let s = a.reader.now in
+    shown (hall_list s a.va (length a.list.now)) _ a.list.now (limit_exceeded s a.va (length a.list.now) (sym c.within_limit.ensures ∙ c.if-not-within_limit.true)) (ap Err c.by.ensures) refl
 
-pub list_models-requires : goal.list_models-requires
-list_models-requires c =
-    let a = c.args in
-    let within = sym c.within_limit.ensures ∙ c.if-not-within_limit.false in
-    let each = limit-each (sections a.system.now a.graphics.now) within in
-    (each.0, each.1, omega arith)
+pub returns-then-not-within_limit-clause-answer : goal.returns-then-not-within_limit-clause-answer
+returns-then-not-within_limit-clause-answer c = (over c).0
 
-pub returns-in-Header : goal.returns-in-Header
-returns-in-Header c =
-    let a = c.args in
-    let s = sections a.system.now a.graphics.now in
-    let within = sym c.within_limit.ensures ∙ c.if-not-within_limit.false in
-    let header = sym c.read_pointer_list_header.ensures ∙ c.in-Header.is in
-    let is = header_found s a.va (length a.list.now) within _ header _ c.len-count.ensures in
-    let put = c.list_models.ensures in
-    shown (hall_list s a.va (length a.list.now)) _ a.list.now is put.0 put.1
+pub returns-then-not-within_limit-clause-bytes : goal.returns-then-not-within_limit-clause-bytes
+returns-then-not-within_limit-clause-bytes c = (over c).1
 
-pub returns-in-Unresolved : goal.returns-in-Unresolved
-returns-in-Unresolved c =
+pub invariant_of-limited : goal.invariant_of-limited
+invariant_of-limited c = let each = limit-each c.args.reader.now (sym c.within_limit.ensures ∙ c.if-not-within_limit.false) in record { small = record { system = each.0; graphics = each.1 } }
+
+listed : (c : goal.After-slice_known-in-Some-1) → Shown (hall_list c.args.reader.now c.args.va (length c.args.list.now)) c.args.list.now c.list_models.result c.list_models.new.list
+listed c =
     let a = c.args in
-    let s = sections a.system.now a.graphics.now in
+    let s = a.reader.now in
     let within = sym c.within_limit.ensures ∙ c.if-not-within_limit.false in
-    let none = sym c.read_pointer_list_header.ensures ∙ c.in-Unresolved.is in
-    shown (hall_list s a.va (length a.list.now)) _ a.list.now (header-missing s a.va (length a.list.now) within none) refl (sym (overwrite-none a.list.now 0))
+    let is = header_found s a.va (length a.list.now) within _ (sym c.in-Some.ensures) _ c.len.ensures in
+    shown (hall_list s a.va (length a.list.now)) _ a.list.now is c.list_models.ensures.answer c.list_models.ensures.bytes
+
+pub returns-in-Some-clause-answer : goal.returns-in-Some-clause-answer
+returns-in-Some-clause-answer c = (listed c).0
+
+pub returns-in-Some-clause-bytes : goal.returns-in-Some-clause-bytes
+returns-in-Some-clause-bytes c = (listed c).1
+
+missing : (c : goal.In-None) → Shown (hall_list c.args.reader.now c.args.va (length c.args.list.now)) c.args.list.now (Ok 0) c.args.list.now
+missing c =
+    let a = c.args in
+    let s = a.reader.now in
+    let none = header-missing s a.va (length a.list.now) (sym c.within_limit.ensures ∙ c.if-not-within_limit.false) (sym c.in-None.ensures) in
+    shown (hall_list s a.va (length a.list.now)) _ a.list.now none refl (sym (overwrite-none a.list.now 0))
+
+pub returns-in-None-clause-answer : goal.returns-in-None-clause-answer
+returns-in-None-clause-answer c = (missing c).0
+
+pub returns-in-None-clause-bytes : goal.returns-in-None-clause-bytes
+returns-in-None-clause-bytes c = (missing c).1

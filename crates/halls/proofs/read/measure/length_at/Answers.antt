@@ -1,18 +1,19 @@
--- Fewer than 0x98 bytes: 0. Else the length of the view, which is that of the records.
-use mathlib.Core.Path.{ap, ◌∙◌}
-use native.Mathlib.Omega.{arith}
-use Rattle.sections.proofs.AddressLaws.{resolved-whole, resolved-short}
+-- The length of the view of the bytes that were found, which is that of the records.
+use Rattle.std.proofs.Common.{rules, ap, ◌∙◌, ◌≡◌, length}
+use Rattle.halls.specs.Blocks.{geometry_block}
+use Rattle.halls.specs.List.{write_geometry}
+use Rattle.halls.specs.Reading.{geometry_of}
 use Rattle.halls.specs.Inner.Measure.{length_at}
 use Rattle.halls.specs.Inner.View.{view_length}
 use Rattle.halls.proofs.read.ViewLaws.{view_length_lem}
 use Rattle.halls.proofs.read.measure.length_at.Goals as goal
 
-pub returns-then-raw-lt152 : goal.returns-then-raw-lt152
+pub returns-in_err-raw-clause-value : goal.returns-in_err-raw-clause-value
 unfolding length_at
-returns-then-raw-lt152 c = (rw (resolved-short _ _ 152 (rw c.resolve-raw.ensures at c.if-raw-lt152.true)), omega arith)
+returns-in_err-raw-clause-value c = rw (← c.resolve.ensures) (search rules)
 
-pub returns : goal.returns
+pub returns-clause-value : goal.returns-clause-value
 unfolding length_at
-returns c =
-    let whole = resolved-whole _ _ 152 (omega arith) (rw c.resolve-raw.ensures at c.if-raw-lt152.false) in
-    (rw (whole, ← c.resolve-raw.ensures) (c.view_length.ensures.0 ∙ ap view_length c.geometry_view.ensures ∙ view_length_lem _ _ _), c.view_length.ensures.1)
+returns-clause-value c =
+    let e : c.view_length.result ≡ length (write_geometry (geometry_of c.args.reader.now c.args.shader (geometry_block c.in_ok-raw.raw.now))) = c.view_length.ensures.0 ∙ ap view_length c.geometry_view.ensures ∙ view_length_lem _ _ _ in
+    rw (← c.resolve.ensures, e) (search rules)

@@ -1,10 +1,9 @@
--- Fewer than 0x60 bytes: absent. Else the view of the bytes that were found.
-use native.Mathlib.Omega.{arith}
-use Rattle.sections.proofs.AddressLaws.{resolved-whole, resolved-short}
+-- The view of the bytes that were found.
+use Rattle.std.proofs.Common.{rules}
 use Rattle.halls.proofs.read.view.index_view.Goals as goal
 
-pub returns-then-raw-lt96 : goal.returns-then-raw-lt96
-returns-then-raw-lt96 c = rw (resolved-short _ _ 96 (rw c.resolve-raw.ensures at c.if-raw-lt96.true))
+pub returns-in_err-raw : goal.returns-in_err-raw
+returns-in_err-raw c = rw (← c.resolve.ensures) (search rules)
 
 pub returns : goal.returns
-returns c = rw (resolved-whole _ _ 96 (omega arith) (rw c.resolve-raw.ensures at c.if-raw-lt96.false), ← c.resolve-raw.ensures, c.block_view.ensures)
+returns c = rw (← c.resolve.ensures) (search rules)

@@ -2,5 +2,5 @@
 use native.Mathlib.Omega.{arith}
 use Rattle.halls.proofs.read.view.indices_length.Goals as goal
 
-pub returns-in-Indices : goal.returns-in-Indices
-returns-in-Indices c = (rw (c.in-Indices.is, c.held.ensures), omega arith)
+pub returns-in-Some : goal.returns-in-Some
+returns-in-Some c = (rw (c.in-Some.is, c.held.ensures), omega arith)

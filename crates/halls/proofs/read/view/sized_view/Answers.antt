@@ -1,4 +1,4 @@
--- The tests of the size are the definition's.
+-- The two sizes that there are.
 use borrow.Author.Tests.{eq-eqb, ne_eqb}
 use Rattle.halls.specs.Inner.View.{sized_view}
 use Rattle.halls.proofs.read.view.sized_view.Goals as goal

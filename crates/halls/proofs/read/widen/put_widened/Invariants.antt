@@ -1,10 +1,6 @@
 -- The indices passed stand in the list, one more a turn.
-use Prim.Native.Nat.{◌-◌}
 use Rattle.halls.proofs.read.Widening.{Widening}
 use Rattle.halls.proofs.read.widen.put_widened.Given as goal
 
 abbrev pub invariant-loop-i : goal.invariant-loop-i
 invariant-loop-i l = Widening l.raw l.initial.out l.at l.n l.out l.i
-
-abbrev pub decreases-loop-i : goal.decreases-loop-i
-decreases-loop-i l = l.n - l.i

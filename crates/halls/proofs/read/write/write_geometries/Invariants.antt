@@ -1,13 +1,8 @@
 -- Each turn writes what is behind one pointer right behind what was written.
-use Prim.Native.Nat.{◌-◌}
-use Rattle.sections.specs.Address.{sections}
 use Rattle.halls.specs.List.{write_geometry}
 use Rattle.halls.proofs.read.Walks.{geometries_left}
 use Rattle.halls.proofs.read.WritingItems.{WritingItems}
 use Rattle.halls.proofs.read.write.write_geometries.Given as goal
 
 abbrev pub invariant-loop-i : goal.invariant-loop-i
-invariant-loop-i l = WritingItems write_geometry (geometries_left (sections l.system l.graphics) l.pointers l.mapping) l.initial.out l.at l.out l.i l.next
-
-abbrev pub decreases-loop-i : goal.decreases-loop-i
-decreases-loop-i l = l.n - l.i
+invariant-loop-i l = WritingItems write_geometry (geometries_left l.limited.reader.now l.pointers l.mapping) l.initial.out l.at l.out l.i l.next

@@ -7,13 +7,13 @@ use Rattle.halls.proofs.read.write.write_stored.Goals as goal
 
 pub put_declaration-requires : goal.put_declaration-requires
 put_declaration-requires c =
-    let long : declaration_length c.args.declaration ≡ 22 = rw c.in-Declaration.is in
+    let long : declaration_length c.args.declaration ≡ 22 = rw c.in-Some.is in
     omega (arith, c.requires)
 
-pub returns-in-Declaration : goal.returns-in-Declaration
-returns-in-Declaration c =
-    let told = c.in-Declaration.is in
+pub returns-in-Some : goal.returns-in-Some
+returns-in-Some c =
+    let told = c.in-Some.is in
     (rw told, c.put_declaration.ensures ∙ rw told)
 
-pub returns-in-Absent : goal.returns-in-Absent
-returns-in-Absent c = (rw c.in-Absent.is (omega arith), rw c.in-Absent.is (sym (overwrite-none c.args.out.now c.args.at)))
+pub returns-in-None : goal.returns-in-None
+returns-in-None c = (rw c.in-None.is (omega arith), rw c.in-None.is (sym (overwrite-none c.args.out.now c.args.at)))

@@ -1,30 +1,21 @@
--- From each place on, the walk finds what it finds from the start.
-use Prim.Native.Nat.{◌%◌}
-use native.Mathlib.Omega.{arith}
+-- What the search over the components finds.
+use Rattle.std.proofs.Common.{◌≡◌, eqb, rules, tests, option_map}
+use Rattle.std.specs.Prelude.{Option, Some, None}
+use mathlib.Core.Path.{refl, ◌∙◌}
+use Rattle.std.proofs.lemmas.Iterator.Consumers.{YieldsList-from_first}
+use Rattle.std.proofs.lemmas.Iterator.Search.{find_from_yields_List}
 use Rattle.vertices.specs.Declaration.{component_of, components_of}
-use Rattle.vertices.proofs.ComponentWalk.{component_small, Searching-clear, Searching-end, Searching-hit, Searching-set, Searching-start}
+use Rattle.vertices.proofs.ComponentWalk.{first_found}
 use Rattle.vertices.proofs.declaration.VertexDeclaration.component.Goals as goal
-use Rattle.vertices.proofs.declaration.VertexDeclaration.component.Goals.{then-flags-eq1+else-at-index, else-flags-eq1}
 
-pub loop-at-init : goal.loop-at-init
-loop-at-init c = Searching-start _ _ _
-
-pub returns-then-at-index : goal.returns-then-at-index
-unfolding component_of components_of
-returns-then-at-index c =
-    rw (Searching-hit c.loop-at.invariant c.loop-at-test.true c.if-flags-eq1.true c.if-at-index.true)
-    (cc)
-
-pub overflow_cast-offset : goal.overflow_cast-offset
-overflow_cast-offset c = omega (arith, component_small (c.loop-at.types % 16) c.component_at-component.ensures)
-
-pub overflow_add-offset : goal.overflow_add-offset
-overflow_add-offset c = omega (arith, component_small (c.loop-at.types % 16) c.component_at-component.ensures)
-
-pub loop-at-preserved : goal.loop-at-preserved
-loop-at-preserved c =
-    elim c.if-flags-eq1.branch [ then-flags-eq1+else-at-index w ↦ Searching-set c.loop-at.invariant c.loop-at-test.true w.if-flags-eq1.true w.component_at-component.ensures w.if-at-index.false w.offset-is | else-flags-eq1 w ↦ Searching-clear c.loop-at.invariant c.loop-at-test.true w.if-flags-eq1.false w.offset-is ]
+unmapped : {A : Type 0} (o : Option A) → o ≡ option_map (λ x. x) o
+unmapped None = refl
+unmapped (Some x) = refl
 
 pub returns : goal.returns
-unfolding component_of components_of
-returns c = rw (Searching-end c.loop-at.invariant c.loop-at-test.false)
+unfolding component_of
+returns c =
+    unmapped c.find.result
+    ∙ rw (first_found c.args.index (components_of c.args.self))
+    (find_from_yields_List (λ x. eqb x.semantic_index c.args.index) _ _ c.find.result c.find.ensures.ran
+    (YieldsList-from_first (λ x. x) (λ rest. rest) (components_of c.args.self) c.components.ensures) (λ x b q k. search (rules, tests)))

@@ -1,6 +1,0 @@
--- Indices replaced, told as a number and a length.
-use Rattle.exports.proofs.EditingLaws.{step-told}
-use Rattle.exports.proofs.editing.calicofern_replace_indices.Goals as goal
-
-pub returns : goal.returns
-returns c = step-told c.replace_indices.ensures c.told_answer.ensures.0 c.told_answer.ensures.1

@@ -1,0 +1,10 @@
+// The two sections of a drawable, both within the limit.
+ghost use Rattle.halls.specs.Inner.Small.{Small};
+
+use sections::ResReader;
+
+#[derive(Drop)]
+pub struct Limited<'b, 'a> {
+    pub reader: &'b ResReader<'a>,
+    ghost small: { Small reader.now },
+}

@@ -1,0 +1,16 @@
+-- Each field is put over the block that begins as zeros.
+use mathlib.Core.Path.{ap, ◌∙◌}
+use lib.Dec.{lit≤}
+use Rattle.sections.specs.Edit.{overwrite}
+use Rattle.images.proofs.WrittenBlock.{vertex_puts}
+use Rattle.images.proofs.PartLaws.{Block-zeros, Block-put}
+use Rattle.images.proofs.blocks.VertexBlock.put.Goals as goal
+
+pub returns : goal.returns
+returns c =
+    let zeroed = Block-zeros c.zero.ensures c.requires in
+    let stride = Block-put 8 2 _ zeroed c.put_u16_le.ensures (lit≤ tt) in
+    let content = Block-put 16 8 _ stride c.put_u64_le.ensures (lit≤ tt) in
+    let count = Block-put 24 4 _ content c.put_u32_le.ensures (lit≤ tt) in
+    let last = Block-put 48 8 _ count c.put_u64_le-2.ensures (lit≤ tt) in
+    last.is ∙ ap (overwrite _ _) (vertex_puts _ _ _ _)

@@ -1,0 +1,86 @@
+// The two sections of a drawable, read together: lookup of an address, and the bytes behind it.
+ghost use Rattle.std.specs.Prelude.{◌≡◌};
+ghost use Rattle.std.specs.Option.{option_copied};
+ghost use Rattle.sections.specs.Address.{sections, located, part_of, range_of, resolved, within_limit};
+
+use crate::lookup::{GRAPHICS_BASE, Located, SECTION_LIMIT, SYSTEM_BASE};
+use crate::range::ends_inside;
+use std::marker::Model;
+
+#[derive(Drop)]
+pub struct ResReader<'a> {
+    system: &'a [u8],
+    graphics: &'a [u8],
+}
+
+impl<'a> Model for ResReader<'a> {
+    ghost use Rattle.sections.specs.Address.{Sections, sections};
+
+    ghost Value = { Sections };
+
+    ghost view = { λ r. sections r.system.now r.graphics.now };
+}
+
+impl<'a> ResReader<'a> {
+    pub fn new(system: &'a [u8], graphics: &'a [u8]) -> ResReader<'a>
+        ensures { result ≡ sections system.now graphics.now }
+    {
+        ResReader { system, graphics }
+    }
+
+    // Check 1: both sections are within the limit.
+    pub fn within_limit(&self) -> bool
+        ensures { result ≡ within_limit self.now }
+    {
+        self.system.len() <= SECTION_LIMIT && self.graphics.len() <= SECTION_LIMIT
+    }
+
+    // Where the len bytes behind an address lie. Bits are tested with >> and %.
+    pub fn locate(&self, va: u64, len: usize) -> Option<Located>
+        ensures { result ≡ located self.now va len }
+    {
+        if va == 0 {
+            return None;
+        }
+        if (va >> 30) % 2 + (va >> 29) % 2 == 2 {
+            let at = (va - GRAPHICS_BASE) as usize;
+            if ends_inside(at, len, self.graphics.len()) {
+                return Some(Located::Graphics(at));
+            }
+            return None;
+        }
+        if (va >> 30) % 2 + (va >> 28) % 2 == 2 {
+            let at = (va - SYSTEM_BASE) as usize;
+            if ends_inside(at, len, self.system.len()) {
+                return Some(Located::System(at));
+            }
+        }
+        None
+    }
+
+    // The len bytes at a place as one slice, so that a reader need not know the section; none where they do not end inside it.
+    pub fn bytes_of(&self, place: Located, len: usize) -> Option<&'a [u8]>
+        ensures { option_copied result ≡ range_of self.now place len }
+    {
+        match place {
+            Located::System(at) => part_of(self.system, at, len),
+            Located::Graphics(at) => part_of(self.graphics, at, len),
+        }
+    }
+
+    // The len bytes behind an address.
+    pub fn resolve(&self, va: u64, len: usize) -> Option<&'a [u8]>
+        ensures { option_copied result ≡ resolved self.now va len }
+    {
+        self.bytes_of(self.locate(va, len)?, len)
+    }
+}
+
+fn part_of<'a>(s: &'a [u8], at: usize, len: usize) -> Option<&'a [u8]>
+    ensures { option_copied result ≡ part_of s.now at len }
+{
+    if !ends_inside(at, len, s.len()) {
+        return None;
+    }
+    Some(&s[at..at + len])
+}

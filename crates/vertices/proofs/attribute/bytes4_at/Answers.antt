@@ -1,5 +1,0 @@
--- `bytes4_at`: each element is the definition's.
-use Rattle.vertices.proofs.attribute.bytes4_at.Goals as goal
-
-pub returns : goal.returns
-returns c = cc

@@ -1,5 +1,0 @@
--- `halves4_at`: each element is the definition's.
-use Rattle.vertices.proofs.attribute.halves4_at.Goals as goal
-
-pub returns : goal.returns
-returns c = cc

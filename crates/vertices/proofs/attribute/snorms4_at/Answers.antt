@@ -1,5 +1,0 @@
--- `snorms4_at`: each element is the definition's.
-use Rattle.vertices.proofs.attribute.snorms4_at.Goals as goal
-
-pub returns : goal.returns
-returns c = cc
