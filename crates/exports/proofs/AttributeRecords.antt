@@ -1,11 +1,10 @@
 -- Attributes as records of 20 bytes: their lengths, a loop that writes them, and the answer of the vertex layer as an outcome.
-use Rattle.std.proofs.Common.{◌≡◌, refl, sym, ap, subst, ◌∙◌, Bool, true, false, cond, List, [], ◌∷◌, ◌++◌, map, ℕ, suc, ◌+◌, ◌*◌, ◌/◌, ◌%◌, ◌≤◌, ◌<◌, length, ltb, Result, Ok, Err, arith, length-append, append_assoc}
-use mathlib.Core.List.{append-nil}
-use native.Mathlib.Nat.{add_comm, suc-mul, zero-add}
+use Rattle.std.proofs.Common.{◌≡◌, refl, sym, ap, subst, ◌∙◌, Bool, true, false, cond, List, [], ◌∷◌, map, ℕ, suc, ◌+◌, ◌*◌, ◌/◌, ◌%◌, ◌≤◌, ◌<◌, length, ltb, Result, Ok, Err, arith, length-append}
+use native.Mathlib.Nat.{add_comm, suc-mul}
 use lib.ListN.{length-map}
 use Rattle.sections.specs.Edit.{overwrite}
 use Rattle.sections.specs.Le.{bytes}
-use Rattle.sections.proofs.EditLaws.{overwrite-behind, overwrite-length, overwrite-none}
+use Rattle.sections.proofs.EditLaws.{overwrite-length, overwrite-none, overwrite-then}
 use Rattle.vertices.specs.Attribute.{all_inside, attribute_at, attribute_check, attributes_at, attributes_of}
 use Rattle.vertices.specs.Declaration.{components_of}
 use Rattle.vertices.specs.Runs.{run}
@@ -19,7 +18,6 @@ use Rattle.vertices.specs.declared.values.Bytes4.{Bytes4}
 use Rattle.vertices.proofs.ComponentLaws.{components_few}
 use Rattle.halls.specs.List.{each}
 use Rattle.halls.specs.Outcome.{refusal}
-use Rattle.halls.proofs.EachLaws.{each_snoc}
 use Rattle.exports.specs.Attributes.{padded_bytes, attribute_bytes, recorded, attributes_outcome}
 use Rattle.exports.specs.Told.{Told, fitting}
 
@@ -61,41 +59,38 @@ records_length_lem (a ∷ l) = rw (length-append, Record-length a, records_lengt
 
 -- ---- a loop that writes them, one a turn
 
--- out with the records of the attributes that were passed written, b; the others, `left`, begin at `at`
-pub record Recording (all passed left : List VertexAttribute) (out b : List ℕ) (at : ℕ) : Type 0 where
-  pub whole : passed ++ left ≡ all
-  pub is : b ≡ overwrite out 0 (each attribute_bytes passed)
-  pub same : length b ≡ length out
-  pub place : at ≡ length passed * 20
+-- the records of the attributes that are left, put behind those of the k before them, make the whole
+pub record Recording (whole b : List ℕ) (k : ℕ) (left : List VertexAttribute) : Type 0 where
+  pub room : k * 20 + length left * 20 ≤ length b
+  pub is : overwrite b (k * 20) (each attribute_bytes left) ≡ whole
 
 -- before the first
-pub recording_start : (all : List VertexAttribute) (out : List ℕ) → Recording all [] all out out 0
-unfolding each
-recording_start all out = record { whole = refl; is = sym (overwrite-none out 0); same = refl; place = refl }
+pub recording_start : (all : List VertexAttribute) (out : List ℕ) → length all * 20 ≤ length out → Recording (overwrite out 0 (each attribute_bytes all)) out 0 all
+recording_start all out h = record { room = omega arith; is = refl }
 
-module _ {all passed left : List VertexAttribute} {out b : List ℕ} {at : ℕ} (r : Recording all passed left out b at) (room : length all * 20 ≤ length out) where
+module _ {whole b : List ℕ} {k : ℕ} {left : List VertexAttribute} (r : Recording whole b k left) where
   -- there is room for one more
-  pub recording_room : {a : VertexAttribute} {rest : List VertexAttribute} → left ≡ a ∷ rest → at + 20 ≤ length b
-  recording_room {a} {rest} e =
-      let n : length passed + suc (length rest) ≡ length all = sym (length-append passed (a ∷ rest)) ∙ ap length (rw e at r.whole) in
-      omega (arith, r.place, r.same)
+  pub recording_room : {a : VertexAttribute} {rest : List VertexAttribute} → left ≡ a ∷ rest → k * 20 + 20 ≤ length b
+  recording_room {a} {rest} e = let n : length left ≡ suc (length rest) = ap length e in omega (arith, r.room)
 
   -- one more
-  pub recording_turn : {a : VertexAttribute} {rest : List VertexAttribute} {t : List ℕ} {next : ℕ} → left ≡ a ∷ rest → t ≡ overwrite b at (attribute_bytes a) → next ≡ at + 20
-      → Recording all (passed ++ a ∷ []) rest out t next
-  recording_turn {a} {rest} {t} {next} e f g =
+  pub recording_turn : {a : VertexAttribute} {rest : List VertexAttribute} {t : List ℕ} → left ≡ a ∷ rest → t ≡ overwrite b (k * 20) (attribute_bytes a) → Recording whole t (k + 1) rest
+  unfolding each
+  recording_turn {a} {rest} {t} e f =
+      let n : length left ≡ suc (length rest) = ap length e in
       let here = recording_room e in
-      let fits : 0 + at + length (attribute_bytes a) ≤ length out = rw Record-length (omega (arith, here, r.same)) in
+      let same : length t ≡ length b = ap length f ∙ overwrite-length b (k * 20) (attribute_bytes a) (rw Record-length here) in
+      let next : (k + 1) * 20 ≡ k * 20 + 20 = omega arith in
+      let fits : k * 20 + 20 + length (each attribute_bytes rest) ≤ length b = rw records_length_lem (omega (arith, r.room)) in
       record {
-        whole = rw append_assoc (rw e at r.whole);
-        is = rw each_snoc (overwrite-behind out 0 (each attribute_bytes passed) at (attribute_bytes a) r.is (rw records_length_lem (sym r.place)) (rw zero-add f) fits);
-        same = ap length f ∙ overwrite-length b at (attribute_bytes a) (rw Record-length (recording_room e)) ∙ r.same;
-        place = rw length-append (omega (arith, r.place));
+        room = omega (arith, r.room, same);
+        is = rw (f, next) (overwrite-then b (k * 20) 20 (attribute_bytes a) (each attribute_bytes rest) (Record-length a) fits ∙ rw e at r.is);
       }
 
   -- after the last
-  pub recording_end : left ≡ [] → b ≡ overwrite out 0 (each attribute_bytes all)
-  recording_end e = r.is ∙ ap (λ (l : List VertexAttribute). overwrite out 0 (each attribute_bytes l)) (sym (append-nil passed) ∙ rw e at r.whole)
+  pub recording_end : left ≡ [] → b ≡ whole
+  unfolding each
+  recording_end e = sym (overwrite-none b (k * 20)) ∙ rw e at r.is
 
 -- ---- the answer of the vertex layer
 

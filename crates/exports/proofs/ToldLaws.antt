@@ -24,13 +24,15 @@ use Rattle.vertices.specs.declared.declaration.VertexDeclaration.{VertexDeclarat
 use Rattle.std.specs.Prelude.{Result, Ok, Err}
 use Rattle.vertices.specs.declared.runs.NeedsBytes.{NeedsBytes}
 use Rattle.vertices.specs.declared.unify.UnifyError.{UnifyError}
+use Rattle.vertices.specs.declared.unify.UnifyError.TheVariants.{OutsideData, NeedsBytes as OutputShort}
 use Rattle.vertices.proofs.BufferLaws.{buffer_data}
 use Rattle.vertices.proofs.RunLaws.{converted-length}
 use Rattle.vertices.proofs.UnifiedBytes.{length-unified_run}
 use Rattle.halls.specs.Outcome.{Outcome, refusal, written, answer_of}
 use Rattle.exports.specs.Buffers.{section_number, stored_bytes, buffer_bytes}
-use Rattle.exports.specs.Told.{Told, number_of, length_of, fitting, fitting_capped, answer_number, answer_length, run_number, run_length}
-use Rattle.exports.specs.Unify.{unified_outcome}
+use Rattle.halls.specs.declared.answer.Refusal.{Refusal}
+use Rattle.exports.specs.Told.{Answered, Told, number_of, length_of, fitting, fitting_capped, answer_number, answer_length, run_number, run_length, told_number, told_length}
+use Rattle.exports.specs.Unify.{unified_outcome, unify_refusal}
 
 -- an outcome's number and length are those of its answer
 answer_number_lem : (o : Outcome) → answer_number (answer_of o) ≡ number_of o
@@ -41,18 +43,23 @@ answer_length_lem : (o : Outcome) → answer_length (answer_of o) ≡ length_of 
 answer_length_lem (refusal check needed) = refl
 answer_length_lem (written b) = refl
 
+-- what a call comes to, as C is told it
+pub Answered-told : {o : Outcome} {d : List ℕ} {a : Result ℕ Refusal} {r : ℕ} {t : List ℕ} {n : ℕ} → Answered o d a t → r ≡ answer_number a → n ≡ answer_length a → Told o d r t n
+Answered-told {o} c g h =
+    record { number = g ∙ ap answer_number c.answer ∙ answer_number_lem o; output = c.bytes; size = h ∙ ap answer_length c.answer ∙ answer_length_lem o }
+
 -- ---- bytes into an output
 
 module _ (b : List ℕ) {d : List ℕ} where
   -- they fit
-  pub fitting-yes : {t : List ℕ} {n : ℕ} → length b ≤ length d → t ≡ overwrite d 0 b → n ≡ length b → Told (fitting (length d) b) d 0 t n
+  pub fitting-yes : {t : List ℕ} {n : ℕ} → length b ≤ length d → t ≡ overwrite d 0 b → n ≡ length b → Answered (fitting (length d) b) d (Ok n) t
   unfolding fitting
-  fitting-yes h e f = rw (le-leb (length b) (length d) h) (record { number = refl; output = e; size = f })
+  fitting-yes h e f = rw (le-leb (length b) (length d) h) (record { answer = ap Ok f; bytes = e })
 
   -- they do not
-  pub fitting-no : {n : ℕ} → length d < length b → n ≡ length b → Told (fitting (length d) b) d 10 d n
+  pub fitting-no : {n : ℕ} → length d < length b → n ≡ length b → Answered (fitting (length d) b) d (Err (record { check = 10; needed = n })) d
   unfolding fitting
-  fitting-no h f = rw (lt-leb (length b) (length d) h) (record { number = refl; output = refl; size = f })
+  fitting-no h f = rw (lt-leb (length b) (length d) h) (record { answer = rw f; bytes = refl })
 
 -- ---- runs
 
@@ -93,8 +100,20 @@ unify_told true false b d whole l e f g h = record { number = g ∙ ap (λ (p : 
 unify_told false true b d whole l e f g h = record { number = g ∙ ap (λ (p : ℕ × ℕ). p.0) e; output = f; size = h ∙ ap (λ (p : ℕ × ℕ). p.1) e }
 unify_told false false b d whole l e f g h = record { number = g ∙ ap (λ (p : ℕ × ℕ). p.0) e; output = f; size = h ∙ ap (λ (p : ℕ × ℕ). p.1) e }
 
+-- an answer of unifying is told as document 01 states it
+stated_number : (a : Result ℕ UnifyError) → told_number unify_refusal a ≡ (stated a).0
+stated_number (Ok n) = refl
+stated_number (Err OutsideData) = refl
+stated_number (Err (OutputShort n)) = refl
+
+stated_length : (a : Result ℕ UnifyError) → told_length unify_refusal a ≡ (stated a).1
+stated_length (Ok n) = refl
+stated_length (Err OutsideData) = refl
+stated_length (Err (OutputShort n)) = refl
+
 -- d is the declaration that was made, e the one that was meant
-pub Unified-told : {d e : VertexDeclaration} → d ≡ e → {s : List ℕ} {stride count : ℕ} {out : List ℕ} {a : Result ℕ UnifyError} {r : ℕ} {t : List ℕ} {n : ℕ} → Unified d s stride count out a t → r ≡ (stated a).0 → n ≡ (stated a).1
+pub Unified-told : {d e : VertexDeclaration} → d ≡ e → {s : List ℕ} {stride count : ℕ} {out : List ℕ} {a : Result ℕ UnifyError} {r : ℕ} {t : List ℕ} {n : ℕ} → Unified d s stride count out a t
+    → r ≡ told_number unify_refusal a → n ≡ told_length unify_refusal a
     → Told (unified_outcome e s stride count (length out)) out r t n
 unfolding unified_outcome fitting
 Unified-told {d} {e} p {s} {stride} {count} {out} {a} {r} {t} {n} c g h =
@@ -103,7 +122,7 @@ Unified-told {d} {e} p {s} {stride} {count} {out} {a} {r} {t} {n} c g h =
     let l : length b ≡ whole = length-unified_run d s stride count in
     let same : leb (0 + whole) (length out) ≡ leb (length b) (length out) = ap (λ (i : ℕ). leb i (length out)) (zero-add whole ∙ sym l) in
     subst (λ (x : VertexDeclaration). Told (unified_outcome x s stride count (length out)) out r t n) p
-    (unify_told (vertices_inside d (length s) stride count) (leb (length b) (length out)) b out whole l (rw same at c.answer) (rw same at c.bytes) g h)
+    (unify_told (vertices_inside d (length s) stride count) (leb (length b) (length out)) b out whole l (rw same at c.answer) (rw same at c.bytes) (g ∙ stated_number a) (h ∙ stated_length a))
 
 -- ---- located buffers
 

@@ -12,6 +12,7 @@ use Rattle.vertices.specs.declared.attributes.AttributeError.{AttributeError}
 use Rattle.vertices.specs.declared.declaration.VertexDeclaration.{VertexDeclaration}
 use Rattle.halls.specs.List.{each}
 use Rattle.halls.specs.Outcome.{Outcome, refusal}
+use Rattle.halls.specs.declared.answer.Refusal.{Refusal}
 use Rattle.exports.specs.Told.{fitting}
 
 -- the value's floats, 4 bytes each, or its four bytes
@@ -41,3 +42,7 @@ recorded room (Err e) = refusal (attribute_check e) 0
 -- the attributes of the vertex `index` of `count` into `room` bytes: checks 8, 9 and 10
 abbrev pub attributes_outcome : List ℕ → ℕ → ℕ → VertexDeclaration → ℕ → ℕ → Outcome
 attributes_outcome s stride count d index room = recorded room (attributes_of s stride count d index)
+
+-- an error as a refusal of its check
+abbrev pub attribute_refusal : AttributeError → Refusal
+attribute_refusal e = record { check = attribute_check e; needed = 0 }

@@ -5,12 +5,15 @@ ghost use Rattle.vertices.specs.Unified.{vec4_bytes};
 ghost use Rattle.halls.specs.List.{each};
 ghost use Rattle.exports.specs.Attributes.{padded_bytes, attribute_bytes, attributes_outcome};
 ghost use Rattle.exports.specs.Passed.{declared};
-ghost use Rattle.exports.specs.Told.{Told};
+ghost use Rattle.exports.specs.Told.{Answered, Told};
 
 use crate::declared::declaration;
+use crate::told::{Refused, told};
+use halls::{Refusal, room};
 use sections::{put_u8_le, put_u16_le, put_u32_le};
 use vertices::{
-    Attributes, Bytes4, F32, Vec4, VertexAttribute, VertexAttributeValue, read_vertex_attributes,
+    Attributes, Bytes4, F32, Vec4, VertexAttribute, VertexAttributeValue, VertexDeclaration,
+    read_vertex_attributes,
 };
 
 // Bytes of a record.
@@ -30,28 +33,36 @@ pub extern "C" fn calicofern_vertex_attributes(
     ensures { Told (attributes_outcome «data».now stride count (declared flags types) index (length out.old)) out.old result out.new size.new }
 {
     let declaration = declaration(flags, types);
-    *size = 0;
+    let answer = write_attributes(data, stride, count, declaration, index, out);
+    told(answer, size)
+}
+
+fn write_attributes(
+    data: &[u8],
+    stride: u16,
+    count: u32,
+    declaration: VertexDeclaration,
+    index: u64,
+    out: &mut [u8],
+) -> Result<u64, Refusal>
+    ensures { Answered (attributes_outcome «data».now stride count declaration index (length out.old)) out.old result out.new }
+{
     let attributes = match read_vertex_attributes(data, stride, count, declaration, index) {
         Ok(attributes) => attributes,
-        Err(error) => return error.check(),
+        Err(error) => return Err(error.refusal()),
     };
     let needed = attributes.len() * RECORD;
-    *size = needed as u64;
-    if out.len() < needed {
-        return 10;
-    }
+    room(10, out.len(), needed as u64)?;
     put_attributes(out, attributes);
-    0
+    Ok(needed as u64)
 }
 
 fn put_attributes(out: &mut [u8], attributes: Attributes)
     requires { length attributes * 20 ≤ length out.old }
     ensures { out.new ≡ overwrite out.old 0 (each attribute_bytes attributes.entry) }
 {
-    let mut at = 0;
-    for attribute in attributes {
-        put_attribute(out, at, attribute);
-        at += RECORD;
+    for (i, attribute) in attributes.enumerate() {
+        put_attribute(out, i * RECORD, attribute);
     }
 }
 

@@ -4,8 +4,10 @@ ghost use Rattle.sections.specs.Address.{sections};
 ghost use Rattle.sections.specs.Edit.{overwrite};
 ghost use Rattle.vertices.specs.Buffer.{vertex_buffer_at};
 ghost use Rattle.exports.specs.Buffers.{section_number, offset_of, stored_bytes, head_bytes, place_bytes, buffer_bytes, found_bytes};
-ghost use Rattle.exports.specs.Told.{Told, fitting};
+ghost use Rattle.exports.specs.Told.{Answered, Told, fitting};
 
+use crate::told::told;
+use halls::{Refusal, room};
 use sections::{Located, ResReader, put_u8_le, put_u16_le, put_u32_le, put_u64_le};
 use vertices::{VertexBuffer, VertexDeclaration, write_declaration};
 
@@ -30,32 +32,25 @@ pub extern "C" fn calicofern_vertex_buffer<'a>(
         inline_count,
         inline_stride,
     );
-    write_found(found, out, size)
+    told(write_found(found, out), size)
 }
 
-fn write_found(found: Option<VertexBuffer>, out: &mut [u8], size: &mut u64) -> u8
-    ensures { Told (fitting (length out.old) (found_bytes found)) out.old result out.new size.new }
+fn write_found(found: Option<VertexBuffer>, out: &mut [u8]) -> Result<u64, Refusal>
+    ensures { Answered (fitting (length out.old) (found_bytes found)) out.old result out.new }
 {
     match found {
-        Some(buffer) => write_buffer(buffer, out, size),
-        None => {
-            *size = 0;
-            0
-        }
+        Some(buffer) => write_buffer(buffer, out),
+        None => Ok(0),
     }
 }
 
-fn write_buffer(buffer: VertexBuffer, out: &mut [u8], size: &mut u64) -> u8
-    ensures { Told (fitting (length out.old) (buffer_bytes buffer)) out.old result out.new size.new }
+fn write_buffer(buffer: VertexBuffer, out: &mut [u8]) -> Result<u64, Refusal>
+    ensures { Answered (fitting (length out.old) (buffer_bytes buffer)) out.old result out.new }
 {
-    let declaration = buffer.declaration;
-    let needed = 32 + stored_length(declaration);
-    *size = needed as u64;
-    if out.len() < needed {
-        return 10;
-    }
+    let needed = 32 + stored_length(buffer.declaration);
+    room(10, out.len(), needed as u64)?;
     put_buffer(out, buffer);
-    0
+    Ok(needed as u64)
 }
 
 // 32 bytes, and the declaration where one is stored.
@@ -63,19 +58,16 @@ fn put_buffer(out: &mut [u8], buffer: VertexBuffer)
     requires { 32 + length (stored_bytes buffer.declaration) ≤ length out.old }
     ensures { out.new ≡ overwrite out.old 0 (buffer_bytes buffer) }
 {
-    let place = buffer.data;
-    let declaration = buffer.declaration;
     put_head(out, buffer);
-    put_place(out, 23, place);
-    put_stored(out, 32, declaration);
+    put_place(out, 23, buffer.data);
+    put_stored(out, 32, buffer.declaration);
 }
 
 fn put_head(out: &mut [u8], buffer: VertexBuffer)
     requires { 23 ≤ length out.old }
     ensures { out.new ≡ overwrite out.old 0 (head_bytes buffer) }
 {
-    let layout = buffer.layout;
-    put_u8_le(out, 0, layout.number());
+    put_u8_le(out, 0, buffer.layout.number());
     put_u16_le(out, 1, buffer.vertex_stride);
     put_u32_le(out, 3, buffer.vertex_count);
     put_u64_le(out, 7, buffer.data_pointer);
@@ -103,6 +95,7 @@ fn put_stored(out: &mut [u8], at: usize, declaration: Option<VertexDeclaration>)
 fn stored_length(declaration: Option<VertexDeclaration>) -> usize
     ensures { (result ≡ length (stored_bytes declaration)) × (result ≤ 16) }
 {
+    // Not by `map_or`: what its closure gives is out of the answers' reach.
     match declaration {
         Some(_) => 16,
         None => 0,

@@ -4,8 +4,9 @@ ghost use Rattle.halls.specs.Calls.{add_model, add_geometry, remove_geometry, re
 ghost use Rattle.exports.specs.Editing.{ToldStep};
 ghost use Rattle.exports.specs.Passed.{passed_value};
 
-use crate::told::told_answer;
+use crate::told::told;
 use crate::values::passed_value;
+use halls::{AttributeChange, GivenGeometry};
 use sections::ResReader;
 use vertices::VertexDeclaration;
 
@@ -19,7 +20,7 @@ pub extern "C" fn calicofern_add_model(
 ) -> u8
     ensures { ToldStep (add_model binding mask) hall.old n result hall.new size.new }
 {
-    told_answer(halls::add_model(hall, n, binding, mask), size)
+    told(halls::add_model(hall, n, binding, mask), size)
 }
 
 #[unsafe(no_mangle)]
@@ -47,19 +48,15 @@ pub extern "C" fn calicofern_add_geometry(
         count: declared_count,
         types,
     };
-    told_answer(
-        halls::add_geometry(
-            hall,
-            n,
-            shader,
-            declaration,
-            stride,
-            count,
-            content,
-            indices,
-        ),
-        size,
-    )
+    let given = GivenGeometry {
+        shader,
+        declaration,
+        stride,
+        count,
+        content,
+        indices,
+    };
+    told(halls::add_geometry(hall, n, given), size)
 }
 
 #[unsafe(no_mangle)]
@@ -72,7 +69,7 @@ pub extern "C" fn calicofern_remove_geometry(
 ) -> u8
     ensures { ToldStep (remove_geometry model geometry) hall.old n result hall.new size.new }
 {
-    told_answer(halls::remove_geometry(hall, n, model, geometry), size)
+    told(halls::remove_geometry(hall, n, model, geometry), size)
 }
 
 #[unsafe(no_mangle)]
@@ -84,7 +81,7 @@ pub extern "C" fn calicofern_remove_model(
 ) -> u8
     ensures { ToldStep (remove_model model) hall.old n result hall.new size.new }
 {
-    told_answer(halls::remove_model(hall, n, model), size)
+    told(halls::remove_model(hall, n, model), size)
 }
 
 #[unsafe(no_mangle)]
@@ -104,11 +101,14 @@ pub extern "C" fn calicofern_set_attribute(
 ) -> u8
     ensures { ToldStep (set_attribute model geometry vertex semantic (passed_value shape x y z w)) hall.old n result hall.new size.new }
 {
-    let value = passed_value(shape, x, y, z, w);
-    told_answer(
-        halls::set_attribute(hall, n, model, geometry, vertex, semantic, value),
-        size,
-    )
+    let change = AttributeChange {
+        model,
+        geometry,
+        vertex,
+        semantic,
+        value: passed_value(shape, x, y, z, w),
+    };
+    told(halls::set_attribute(hall, n, change), size)
 }
 
 #[unsafe(no_mangle)]
@@ -122,7 +122,7 @@ pub extern "C" fn calicofern_replace_indices(
 ) -> u8
     ensures { ToldStep (replace_indices model geometry indices.now) hall.old n result hall.new size.new }
 {
-    told_answer(
+    told(
         halls::replace_indices(hall, n, model, geometry, indices),
         size,
     )
@@ -140,5 +140,5 @@ pub extern "C" fn calicofern_take_in<'a>(
     ensures { ToldStep (take_in (sections system.now graphics.now) va) hall.old n result hall.new size.new }
 {
     let reader = ResReader::new(system, graphics);
-    told_answer(halls::take_in(hall, n, &reader, va), size)
+    told(halls::take_in(hall, n, &reader, va), size)
 }

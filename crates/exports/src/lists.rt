@@ -7,7 +7,7 @@ ghost use Rattle.halls.specs.Records.{records};
 ghost use Rattle.halls.specs.Triangles.{triangles_in};
 ghost use Rattle.exports.specs.Told.{Told, verdict_number};
 
-use crate::told::{told_answer, told_check};
+use crate::told::{told, told_check};
 use sections::ResReader;
 
 #[unsafe(no_mangle)]
@@ -21,7 +21,7 @@ pub extern "C" fn calicofern_hall_list<'a>(
     ensures { Told (hall_list (sections system.now graphics.now) va (length list.old)) list.old result list.new size.new }
 {
     let reader = ResReader::new(system, graphics);
-    told_answer(halls::hall_list(&reader, va, list), size)
+    told(halls::hall_list(&reader, va, list), size)
 }
 
 #[unsafe(no_mangle)]

@@ -1,65 +1,92 @@
 // The libraries' answers as a number and a length.
 ghost use Rattle.std.specs.Prelude.{◌≡◌};
-ghost use Rattle.vertices.specs.Unified.{stated};
-ghost use Rattle.exports.specs.Told.{answer_number, answer_length, run_number, run_length, check_number};
+ghost use Rattle.exports.specs.Attributes.{attribute_refusal};
+ghost use Rattle.exports.specs.Told.{check_number, run_length, run_number, run_refusal, told_length, told_number};
+ghost use Rattle.exports.specs.Unify.{unify_refusal};
 
 use halls::Refusal;
-use vertices::{NeedsBytes, UnifyError};
+use vertices::{AttributeError, NeedsBytes, UnifyError};
 
-pub fn told_answer(answer: Result<u64, Refusal>, size: &mut u64) -> u8
-    ensures { (result ≡ answer_number answer) × (size.new ≡ answer_length answer) }
+// A library's error, as the number of the check that failed, and the bytes that an output which is too short would have to have.
+pub trait Refused: Copy {
+    ghost use Rattle.halls.specs.declared.answer.Refusal.{Refusal};
+
+    ghost refusal: { Self → Refusal };
+
+    fn refusal(self) -> Refusal
+        ensures { result ≡ refusal self };
+}
+
+impl Refused for Refusal {
+    ghost refusal = { λ r. r };
+
+    fn refusal(self) -> Refusal {
+        self
+    }
+}
+
+impl Refused for AttributeError {
+    ghost refusal = { attribute_refusal };
+
+    fn refusal(self) -> Refusal {
+        Refusal {
+            check: self.check(),
+            needed: 0,
+        }
+    }
+}
+
+impl Refused for NeedsBytes {
+    ghost refusal = { run_refusal };
+
+    fn refusal(self) -> Refusal {
+        Refusal {
+            check: 10,
+            needed: self.0 as u64,
+        }
+    }
+}
+
+impl Refused for UnifyError {
+    ghost refusal = { unify_refusal };
+
+    fn refusal(self) -> Refusal {
+        match self {
+            UnifyError::OutsideData => Refusal {
+                check: 9,
+                needed: 0,
+            },
+            UnifyError::NeedsBytes(error) => error.refusal(),
+        }
+    }
+}
+
+pub fn told<E: Refused>(answer: Result<u64, E>, size: &mut u64) -> u8
+    ensures number { result ≡ told_number E.refusal answer }
+    ensures length { size.new ≡ told_length E.refusal answer }
 {
     match answer {
         Ok(n) => {
             *size = n;
             0
         }
-        Err(r) => {
-            *size = r.needed;
-            r.check
+        Err(error) => {
+            let refusal = error.refusal();
+            *size = refusal.needed;
+            refusal.check
         }
     }
 }
 
 pub fn told_run(answer: Result<usize, NeedsBytes>, size: &mut u64) -> u8
-    ensures { (result ≡ run_number answer) × (size.new ≡ run_length answer) }
+    ensures number { result ≡ run_number answer }
+    ensures length { size.new ≡ run_length answer }
 {
-    match answer {
-        Ok(n) => {
-            *size = n as u64;
-            0
-        }
-        Err(NeedsBytes(n)) => {
-            *size = n as u64;
-            10
-        }
-    }
-}
-
-pub fn told_unified(answer: Result<u64, UnifyError>, size: &mut u64) -> u8
-    ensures { (result ≡ (stated answer).0) × (size.new ≡ (stated answer).1) }
-{
-    match answer {
-        Ok(n) => {
-            *size = n;
-            0
-        }
-        Err(UnifyError::OutsideData) => {
-            *size = 0;
-            9
-        }
-        Err(UnifyError::NeedsBytes(n)) => {
-            *size = n;
-            10
-        }
-    }
+    told(answer.map(|n| n as u64), size)
 }
 
 pub fn told_check(answer: Result<(), Refusal>) -> u8
     ensures { result ≡ check_number answer }
 {
-    match answer {
-        Ok(()) => 0,
-        Err(r) => r.check,
-    }
+    answer.err().map_or(0, |refusal| refusal.check)
 }

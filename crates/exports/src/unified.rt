@@ -5,7 +5,7 @@ ghost use Rattle.exports.specs.Told.{Told};
 ghost use Rattle.exports.specs.Unify.{unified_outcome};
 
 use crate::declared::declaration;
-use crate::told::told_unified;
+use crate::told::told;
 
 #[unsafe(no_mangle)]
 pub extern "C" fn calicofern_unified_vertices(
@@ -20,7 +20,7 @@ pub extern "C" fn calicofern_unified_vertices(
     ensures { Told (unified_outcome (declared flags types) «data».now stride count (length out.old)) out.old result out.new size.new }
 {
     let declaration = declaration(flags, types);
-    told_unified(
+    told(
         vertices::unified_vertices(data, stride, count, declaration, out),
         size,
     )

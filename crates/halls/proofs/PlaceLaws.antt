@@ -1,5 +1,5 @@
 -- The places in a hall: what is sought in its list stands where they say.
-use Rattle.std.specs.Prelude.{Option, None, Some, unwrap_or, option_map}
+use Rattle.std.specs.Prelude.{None, Some, unwrap_or, option_map}
 use mathlib.Core.Path.{◌≡◌, refl, sym, ap, ◌∙◌}
 use mathlib.Core.List.{List, [], ◌∷◌, ◌++◌, map, append_assoc}
 use Prim.Native.Nat.{ℕ, zero, suc, ◌+◌, ◌*◌, ◌-◌, ◌≤◌, ◌<◌}
@@ -116,9 +116,9 @@ pub record ModelHere (s : List ℕ) (h : Hall) (m at : ℕ) : Type 0 where
   pub behind : Stand s (at + (12 + 2 * length it.mapping)) (geometries_records it.geometries ++ hall_records others)
 
 module _ (s : List ℕ) (h : Hall) (same : hall_records h ≡ records s) (m : ℕ) where
-  pub sought-model : sought s 0 1 m ≡ unwrap_or (option_map (λ (x : FullModel). 0 + records_length (hall_records (take m h))) (item m h)) (length s)
+  pub sought-model : sought s 0 1 m ≡ option_map (λ (x : FullModel). 0 + records_length (hall_records (take m h))) (item m h)
   unfolding sought
-  sought-model = ap (λ (rs : List Record). unwrap_or (place_of 1 m 0 rs) (length s)) (sym same) ∙ ap (λ (o : Option ℕ). unwrap_or o (length s)) (place-model h m 0)
+  sought-model = ap (place_of 1 m 0) (sym same) ∙ place-model h m 0
 
   -- behind the bytes of the models before it
   there : {at : ℕ} (x : FullModel) (xs : Hall) → drop m h ≡ x ∷ xs → at ≡ length (hall_bytes (take m h)) → ModelHere s h m at
@@ -142,24 +142,11 @@ module _ (s : List ℕ) (h : Hall) (same : hall_records h ≡ records s) (m : �
       by (y ∷ ys) q = there y ys q f
 
   -- where it is sought
-  pub sought-there : {at : ℕ} (x : FullModel) (xs : Hall) → drop m h ≡ x ∷ xs → at ≡ sought s 0 1 m → ModelHere s h m at
+  pub sought-there : {at : ℕ} (x : FullModel) (xs : Hall) → drop m h ≡ x ∷ xs → Some at ≡ sought s 0 1 m → ModelHere s h m at
   sought-there {at} x xs e f =
-      let place : at ≡ 0 + records_length (hall_records (take m h)) = f ∙ sought-model ∙ rw e in
+      let place : Some at ≡ Some (0 + records_length (hall_records (take m h))) = f ∙ sought-model ∙ rw e in
+      let place : at ≡ 0 + records_length (hall_records (take m h)) = cc in
       there x xs e (omega (arith, place, hall-length (take m h)))
-
-  pub no-model : {at : ℕ} → at ≡ sought s 0 1 m → at ≡ length s → item m h ≡ None
-  no-model {at} e z = by (drop m h) refl
-    where
-      by : (l : Hall) → drop m h ≡ l → item m h ≡ None
-      by [] q = rw q
-      by (x ∷ xs) q = let w = sought-there x xs q e in absurd (omega (arith, z, w.behind.low))
-
-  pub ModelHere_lem : {at : ℕ} → at ≡ sought s 0 1 m → (at ≡ length s → ⊥) → ModelHere s h m at
-  ModelHere_lem {at} e z = by (drop m h) refl
-    where
-      by : (l : Hall) → drop m h ≡ l → ModelHere s h m at
-      by [] q = absurd (z (e ∙ sought-model ∙ rw q))
-      by (x ∷ xs) q = sought-there x xs q e
 
 -- ---- where it ends
 
@@ -218,11 +205,11 @@ pub record GeometryHere (s : List ℕ) (start : ℕ) (gs : List FullGeometry) (g
   pub low : at + 55 + length it.vertices.content ≤ length s
 
 module _ (s : List ℕ) (start : ℕ) (gs : List FullGeometry) (ms : Hall) (w : Stand s start (geometries_records gs ++ hall_records ms)) (g : ℕ) where
-  sought-geometry : sought s start 2 g ≡ unwrap_or (option_map (λ (x : FullGeometry). start + records_length (geometries_records (take g gs))) (item g gs)) (length s)
+  sought-geometry : sought s start 2 g ≡ option_map (λ (x : FullGeometry). start + records_length (geometries_records (take g gs))) (item g gs)
   unfolding sought
-  sought-geometry = ap (λ (rs : List Record). unwrap_or (place_of 2 g start rs) (length s)) w.are ∙ ap (λ (o : Option ℕ). unwrap_or o (length s)) (place-geometry gs ms g start)
+  sought-geometry = ap (place_of 2 g start) w.are ∙ place-geometry gs ms g start
 
-  stands : {at : ℕ} (x : FullGeometry) (xs : List FullGeometry) → drop g gs ≡ x ∷ xs → at ≡ sought s start 2 g → GeometryHere s start gs g at
+  stands : {at : ℕ} (x : FullGeometry) (xs : List FullGeometry) → drop g gs ≡ x ∷ xs → Some at ≡ sought s start 2 g → GeometryHere s start gs g at
   unfolding geometries_records
   stands {at} x xs e f =
       let before : List Record = geometries_records (take g gs) in
@@ -230,7 +217,8 @@ module _ (s : List ℕ) (start : ℕ) (gs : List FullGeometry) (ms : Hall) (w : 
       let three : List ℕ = declaration_bytes x.declaration in
       let four : List ℕ = vertices_body x.vertices in
       let others : List Record = of_kind 5 (indices_body x.indices) ∷ (geometries_records xs ++ hall_records ms) in
-      let place : at ≡ start + records_length before = f ∙ sought-geometry ∙ rw e in
+      let place : Some at ≡ Some (start + records_length before) = f ∙ sought-geometry ∙ rw e in
+      let place : at ≡ start + records_length before = cc in
       let parts : geometries_records gs ++ hall_records ms ≡ before ++ (geometries_records (x ∷ xs) ++ hall_records ms) =
       ap (λ (l : List FullGeometry). geometries_records l ++ hall_records ms) (sym (take-append-drop g gs)) ∙ rw (geometries-append (take g gs) (drop g gs), e, append_assoc) in
       let all : Stand s start (before ++ (geometries_records (x ∷ xs) ++ hall_records ms)) = record { low = w.low; are = w.are ∙ parts } in
@@ -250,49 +238,47 @@ module _ (s : List ℕ) (start : ℕ) (gs : List FullGeometry) (ms : Hall) (w : 
         low = omega (arith, l, m, n, front.behind.low);
       }
 
-  pub no-geometry : {at : ℕ} → at ≡ sought s start 2 g → at ≡ length s → item g gs ≡ None
-  no-geometry {at} e z = by (drop g gs) refl
+  pub no-geometry : None ≡ sought s start 2 g → item g gs ≡ None
+  no-geometry e = by (drop g gs) refl
     where
       by : (l : List FullGeometry) → drop g gs ≡ l → item g gs ≡ None
       by [] q = rw q
-      by (x ∷ xs) q = let f = stands x xs q e in absurd (omega (arith, z, f.low))
+      by (x ∷ xs) q = let clash : None ≡ Some (start + records_length (geometries_records (take g gs))) = e ∙ sought-geometry ∙ rw q in let z : ◌≡◌ {A = ℕ} 0 1 = cc in absurd (omega arith)
 
-  pub GeometryHere_lem : {at : ℕ} → at ≡ sought s start 2 g → (at ≡ length s → ⊥) → GeometryHere s start gs g at
-  GeometryHere_lem {at} e z = by (drop g gs) refl
+  pub GeometryHere_lem : {at : ℕ} → Some at ≡ sought s start 2 g → GeometryHere s start gs g at
+  GeometryHere_lem {at} e = by (drop g gs) refl
     where
       by : (l : List FullGeometry) → drop g gs ≡ l → GeometryHere s start gs g at
-      by [] q = absurd (z (e ∙ sought-geometry ∙ rw q))
+      by [] q = let clash : Some at ≡ None = e ∙ sought-geometry ∙ rw q in let z : ◌≡◌ {A = ℕ} 0 1 = cc in absurd (omega arith)
       by (x ∷ xs) q = stands x xs q e
 
 -- ---- the answers
 
-module _ (s : List ℕ) (h : Hall) (same : hall_records h ≡ records s) (m : ℕ) {at : ℕ} (e : at ≡ sought s 0 1 m) where
-  pub model-absent : at ≡ length s → None ≡ (model_place h m)
+module _ (s : List ℕ) (h : Hall) (same : hall_records h ≡ records s) (m : ℕ) where
+  pub model-absent : None ≡ sought s 0 1 m → None ≡ model_place h m
   unfolding model_place
-  model-absent z = rw (no-model s h same m e z)
+  model-absent e = by (drop m h) refl
+    where
+      by : (l : Hall) → drop m h ≡ l → None ≡ model_place h m
+      by [] q = rw q
+      by (x ∷ xs) q = let clash : None ≡ Some (0 + records_length (hall_records (take m h))) = e ∙ sought-model s h same m ∙ rw q in let z : ◌≡◌ {A = ℕ} 0 1 = cc in absurd (omega arith)
 
-  pub model_found_lem : (at ≡ length s → ⊥) → Some at ≡ (model_place h m)
+  pub model_found_lem : {at : ℕ} → Some at ≡ sought s 0 1 m → Some at ≡ model_place h m
   unfolding model_place
-  model_found_lem z = let w = ModelHere_lem s h same m e z in rw (w.is, ← w.place)
-
-  pub without-model : (g : ℕ) → at ≡ length s → None ≡ (geometry_place h m g)
-  unfolding geometry_place
-  without-model g z = rw (no-model s h same m e z)
+  model_found_lem {at} e = by (drop m h) refl
+    where
+      by : (l : Hall) → drop m h ≡ l → Some at ≡ model_place h m
+      by [] q = let clash : Some at ≡ None = e ∙ sought-model s h same m ∙ rw q in let z : ◌≡◌ {A = ℕ} 0 1 = cc in absurd (omega arith)
+      by (x ∷ xs) q = let w = sought-there s h same m x xs q e in rw (w.is, ← w.place)
 
 module _ {s : List ℕ} {h : Hall} {m at : ℕ} (w : ModelHere s h m at) (g : ℕ) where
   abbrev pub GeometryOf : ℕ → Type 0
   GeometryOf place = GeometryHere s (start w) w.it.geometries g place
 
-  module _ {n place : ℕ} (e : n ≡ field 4 s at) (f : place ≡ sought s (at + 6 + n) 2 g) where
-    from_start : place ≡ sought s (start w) 2 g
-    from_start = f ∙ ap (λ (k : ℕ). sought s k 2 g) (behind-model w e)
-
-    pub geometry-absent : place ≡ length s → None ≡ (geometry_place h m g)
-    unfolding geometry_place
-    geometry-absent z = rw (w.is, no-geometry s (start w) w.it.geometries w.others w.behind g from_start z)
-
-    pub geometry-stands : (place ≡ length s → ⊥) → GeometryOf place
-    geometry-stands z = GeometryHere_lem s (start w) w.it.geometries w.others w.behind g from_start z
+  pub geometry-absent : {n : ℕ} → n ≡ field 4 s at → None ≡ sought s (at + 6 + n) 2 g → None ≡ geometry_place h m g
+  unfolding geometry_place
+  geometry-absent e f =
+      rw (w.is, no-geometry s (start w) w.it.geometries w.others w.behind g (f ∙ ap (λ (k : ℕ). sought s k 2 g) (behind-model w e)))
 
   pub geometry_found_lem : {place n : ℕ} → GeometryOf place → n ≡ field 4 s (place + 42)
       → Some (record { model = at; geometry = place; declaration = place + 20; vertices = place + 42; indices = place + 42 + 6 + n }) ≡ (geometry_place h m g)

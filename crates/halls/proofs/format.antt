@@ -1,5 +1,7 @@
 -- Laws about the bytes of a list: records, written and parsed.
 pub mod RecordLaws
+pub mod SpanLaws
+pub mod KindLaws
 pub mod TriangleLaws
 pub mod FrontLaws
 pub mod RecordBytes

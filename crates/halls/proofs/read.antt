@@ -1,7 +1,7 @@
 -- Laws about reading a drawable: what both passes see, and that they see the same.
 pub mod ViewLaws
 pub mod EachLaws
-pub mod PointerLists
+pub mod EntryLaws
 pub mod ReadingLaws
 pub mod ReadBytes
 pub mod Measuring
@@ -12,7 +12,7 @@ pub mod Widening
 pub mod HeldLaws
 pub mod ViewRecords
 pub mod WritingItems
-pub mod Walks
+pub mod StoredLaws
 pub mod SecondPass
 pub mod WritingModel
 pub mod ListingLaws

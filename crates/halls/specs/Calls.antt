@@ -13,6 +13,7 @@ use Rattle.halls.specs.List as list
 use Rattle.halls.specs.Places.{item}
 use Rattle.halls.specs.Reading.{Reading, refused, read, need, and_then, read_list}
 use Rattle.halls.specs.State.{Geometry, Model, State, vertex_count, full_model, hall_of}
+use Rattle.halls.specs.declared.edit.add_geometry.GivenGeometry.{GivenGeometry}
 
 -- an added geometry, as it is given
 pub record Given : Type 0 where
@@ -22,6 +23,10 @@ pub record Given : Type 0 where
   pub count : ℕ
   pub content : List ℕ
   pub indices : List ℕ
+
+-- as a caller lends it
+abbrev pub given_in : GivenGeometry → Given
+given_in g = record { shader = g.shader; declaration = g.declaration; stride = g.stride; count = g.count; content = g.content.now; indices = g.indices.now }
 
 pub data Call : Type 0 where
   add_model : (binding mask : ℕ) → Call

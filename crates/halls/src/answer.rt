@@ -1,7 +1,8 @@
 // What a call on a list or a hall answers where it refuses.
-ghost use Rattle.std.specs.Prelude.{◌≡◌};
+ghost use Rattle.std.specs.Prelude.{◌≡◌, ◌≤◌, ◌<◌, MatchResult};
 
-// The number of the check that failed: a number, since the papers number the checks and C is told it. `needed` is how long the lent buffer would have to be where its length was the reason, else 0.
+// The number of the check that failed: a number, since the papers number the checks and C is told it. `needed` is how long the lent buffer would
+// have to be where its length was the reason, else 0.
 #[derive(Clone, Copy, Debug, PartialEq, Eq)]
 pub struct Refusal {
     pub check: u8,
@@ -15,4 +16,14 @@ impl Refusal {
     {
         Refusal { check, needed: 0 }
     }
+}
+
+// Check `check`: a lent buffer is as long as is needed.
+pub fn room(check: u8, len: usize, needed: u64) -> Result<(), Refusal>
+    ensures { MatchResult result (λ _. needed ≤ len) (λ e. (len < needed) × (e ≡ record { check = check; needed = needed })) }
+{
+    if (len as u64) < needed {
+        return Err(Refusal { check, needed });
+    }
+    Ok(())
 }

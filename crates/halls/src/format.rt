@@ -2,6 +2,7 @@
 pub mod front;
 pub mod kind;
 pub mod model;
+pub mod numbers;
 pub mod record;
 pub mod triangles;
 pub mod walk;

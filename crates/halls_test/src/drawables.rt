@@ -1,19 +1,16 @@
 // Rows about the list of a drawable, behind the header at address c, in a buffer of d bytes.
 use crate::buffers::{SECTION, list_buffer, long_list_buffer, put_row};
 use halls::{Refusal, hall_list};
-use replay::{answered, nothing};
+use replay::{NO_ROOM, answered};
 use sections::ResReader;
 use std::io::{self, Write};
 use testing::{Row, first, numbers, rest, zeros};
 
 // hall_list into the first d bytes.
 fn list_into(system: &[u8], graphics: &[u8], row: Row, list: &mut [u8]) -> Result<u64, Refusal> {
-    let room = row.d as usize;
-    if room <= list.len() {
-        let reader = ResReader::new(system, graphics);
-        return hall_list(&reader, row.c, &mut list[..room]);
-    }
-    nothing()
+    let reader = ResReader::new(system, graphics);
+    let list = list.get_mut(..row.d as usize).ok_or(NO_ROOM)?;
+    hall_list(&reader, row.c, list)
 }
 
 // Sections of a and b bytes, in the row.

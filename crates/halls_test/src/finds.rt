@@ -2,22 +2,46 @@
 use crate::buffers::{HALL, put_row};
 use crate::calls::hall_buffer;
 use halls::GeometryPlace;
+use std::fmt;
 use std::io::{self, Write};
 use testing::{Row, first, numbers, zeros};
 
-// find_model, of model c, in a buffer as the calls have it.
-pub fn find_model_row(out: &mut impl Write, row: Row, data: &[u8]) -> io::Result<()> {
-    let b = hall_buffer(data, 32);
-    write!(out, "find model")?;
-    model_in(out, first(&b, row.b as usize), row)
+// find_model, of model c, or find_geometry, of its geometry d.
+#[derive(Clone, Copy)]
+pub enum Finder {
+    Model,
+    Geometry,
 }
 
-// The same in a hall made by e runs.
-pub fn crowded_model_row(out: &mut impl Write, row: Row, data: &[u8]) -> io::Result<()> {
+impl fmt::Display for Finder {
+    fn fmt<W: fmt::Write>(&self, f: &mut fmt::Formatter<W>) -> fmt::Result {
+        f.write_str(match self {
+            Finder::Model => "find model",
+            Finder::Geometry => "find geometry",
+        })
+    }
+}
+
+// In a buffer as the calls have it.
+pub fn find_row(out: &mut impl Write, finder: Finder, row: Row, data: &[u8]) -> io::Result<()> {
+    let b = hall_buffer(data, 32);
+    write!(out, "{finder}")?;
+    found(out, finder, first(&b, row.b as usize), row)
+}
+
+// In a hall made by e runs.
+pub fn crowded_row(out: &mut impl Write, finder: Finder, row: Row, data: &[u8]) -> io::Result<()> {
     let mut b = zeros::<HALL>();
     put_row(&mut b, data, row.e as usize);
-    write!(out, "crowded find model")?;
-    model_in(out, first(&b, row.b as usize), row)
+    write!(out, "crowded {finder}")?;
+    found(out, finder, first(&b, row.b as usize), row)
+}
+
+fn found(out: &mut impl Write, finder: Finder, lent: &[u8], row: Row) -> io::Result<()> {
+    match finder {
+        Finder::Model => model_in(out, lent, row),
+        Finder::Geometry => geometry_in(out, lent, row),
+    }
 }
 
 fn model_in(out: &mut impl Write, lent: &[u8], row: Row) -> io::Result<()> {
@@ -26,21 +50,6 @@ fn model_in(out: &mut impl Write, lent: &[u8], row: Row) -> io::Result<()> {
         Some(place) => writeln!(out, " at {place:x}"),
         None => writeln!(out, " absent"),
     }
-}
-
-// find_geometry, of geometry d of model c, in a buffer as the calls have it.
-pub fn find_geometry_row(out: &mut impl Write, row: Row, data: &[u8]) -> io::Result<()> {
-    let b = hall_buffer(data, 32);
-    write!(out, "find geometry")?;
-    geometry_in(out, first(&b, row.b as usize), row)
-}
-
-// The same in a hall made by e runs.
-pub fn crowded_geometry_row(out: &mut impl Write, row: Row, data: &[u8]) -> io::Result<()> {
-    let mut b = zeros::<HALL>();
-    put_row(&mut b, data, row.e as usize);
-    write!(out, "crowded find geometry")?;
-    geometry_in(out, first(&b, row.b as usize), row)
 }
 
 fn geometry_in(out: &mut impl Write, lent: &[u8], row: Row) -> io::Result<()> {

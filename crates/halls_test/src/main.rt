@@ -9,6 +9,7 @@ mod checks;
 mod drawables;
 mod finds;
 
+use finds::Finder;
 use replay::Call;
 use std::io::{self, BufReader, BufWriter, Write};
 use testing::{Row, each_row, row_data};
@@ -24,10 +25,10 @@ fn run(out: &mut impl Write, row: Row, data: &[u8]) -> io::Result<()> {
         2 => drawables::binding_row(out, row),
         3 => checks::check_row(out, row, data),
         4 => checks::long_check_row(out, row, data),
-        9 => finds::find_model_row(out, row, data),
-        10 => finds::find_geometry_row(out, row, data),
-        13 => finds::crowded_model_row(out, row, data),
-        14 => finds::crowded_geometry_row(out, row, data),
+        9 => finds::find_row(out, Finder::Model, row, data),
+        10 => finds::find_row(out, Finder::Geometry, row, data),
+        13 => finds::crowded_row(out, Finder::Model, row, data),
+        14 => finds::crowded_row(out, Finder::Geometry, row, data),
         _ => writeln!(out, "unknown row"),
     }
 }

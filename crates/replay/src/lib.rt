@@ -5,4 +5,4 @@ mod calls;
 mod lines;
 
 pub use calls::{Call, called_first};
-pub use lines::{accepted, answered, nothing, refused};
+pub use lines::{NO_ROOM, accepted, answered, refused};

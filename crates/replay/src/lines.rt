@@ -35,10 +35,8 @@ pub fn answered(out: &mut impl Write, answer: Result<u64, Refusal>, list: &[u8])
     writeln!(out)
 }
 
-// The answer where a row asks for a longer part of a buffer than there is.
-pub fn nothing() -> Result<u64, Refusal> {
-    Err(Refusal {
-        check: 0,
-        needed: 0,
-    })
-}
+// The answer where a row asks for a longer part of a buffer than there is: number 0 on the line, which is no check's.
+pub const NO_ROOM: Refusal = Refusal {
+    check: 0,
+    needed: 0,
+};

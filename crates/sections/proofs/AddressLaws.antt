@@ -1,5 +1,6 @@
 -- Laws of the lookup.
 use Rattle.std.specs.Prelude.{Option, None, Some, unwrap_or, option_and_then}
+use Rattle.std.specs.Bool.{then_some}
 use mathlib.Core.Path.{◌≡◌, refl, sym, subst, ◌∙◌}
 use mathlib.Core.Bool.{Bool, true, false, cond, ◌&&◌}
 use mathlib.Core.List.{List, []}
@@ -49,6 +50,11 @@ unfolding both_set
 not-both_set j k x h = not-both (eqb (bit j x) 1) (eqb (bit k x) 1) (bit j x) (bit k x) refl refl h
 
 -- ---- where an address points, case by case
+
+-- a place where a test holds, as the library says it
+pub some_if : (b : Bool) (place : Located) → then_some b place ≡ cond b (Some place) None
+some_if true place = refl
+some_if false place = refl
 
 module _ (s : Sections) (va n : ℕ) where
   pub located-zero : va ≡ 0 → located s va n ≡ None

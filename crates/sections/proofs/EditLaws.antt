@@ -1,6 +1,7 @@
 -- Laws of `part` and `overwrite`, for every crate above.
 use mathlib.Core.Path.{◌≡◌, sym, ap, ◌∙◌}
 use mathlib.Core.Bool.{Bool, true, false, cond}
+use mathlib.Core.Logic.{◌⊎◌, inl, inr}
 use mathlib.Core.List.{List, [], ◌∷◌, ◌++◌, append_assoc, append-nil}
 use Prim.Native.Nat.{ℕ, zero, suc, ◌+◌, ◌-◌, ◌≤◌, ◌<◌}
 use denote.Ref.{Bor}
@@ -9,7 +10,7 @@ use Rattle.std.specs.Array.{IsFirstChunk}
 use native.Mathlib.Nat.{add_assoc, add-zero, zero-add}
 use native.Mathlib.Numerals.{add-one}
 use native.Mathlib.Omega.{arith}
-use borrow.Author.Tests.{le-leb}
+use borrow.Author.Tests.{le-leb, lt-leb}
 use lib.Dec.{lit<}
 use borrow.Rule.Slice.PartMut.{put_mid}
 use lib.ListN.{length, take, drop, get_or, set, length-append, length-take, length-drop, take-append-drop, drop_of_length-le}
@@ -60,6 +61,21 @@ chunk-whole s at n rest None h e m =
 chunk-whole s at n rest (Some y) h e m =
     let l : length rest ≡ n = ap length e ∙ length-take-le n (drop at s) (rw length-drop (omega (arith, h))) in
     rw (le-leb (at + n) (length s) h) (ap Some (m.same ∙ take_all n rest (omega (arith, l)) ∙ e))
+
+-- the n behind `at`, as the library's `get` finds them in what is behind it
+pub range-whole : (s : List ℕ) (at n : ℕ) (rest : List ℕ) (r : Option (Bor (List ℕ))) → at ≤ length s → rest ≡ take (length s - at) (drop at s)
+    → MatchOption r ((n < 0) ⊎ (length rest < n)) (λ y. (0 ≤ n) × (n ≤ length rest) × (y.now ≡ take (n - 0) rest) × (length y.now + 0 ≡ n))
+    → option_map (λ (y : Bor (List ℕ)). y.now) r ≡ cond (fits s at n) (Some (part s at n)) None
+unfolding part
+range-whole s at n rest None h e m =
+    let l : length rest ≡ length s - at = ap length e ∙ length-take-le (length s - at) (drop at s) (rw length-drop (omega arith)) in
+    let short : length s < at + n = elim m [ inl z ↦ absurd (omega (arith, z)) | inr b ↦ omega (arith, l, b, h) ] in
+    rw (lt-leb (at + n) (length s) short)
+range-whole s at n rest (Some y) h e m =
+    let l : length rest ≡ length s - at = ap length e ∙ length-take-le (length s - at) (drop at s) (rw length-drop (omega arith)) in
+    let all : rest ≡ drop at s = e ∙ take_all (length s - at) (drop at s) (rw length-drop (omega arith)) in
+    let whole : n - 0 ≡ n = omega arith in
+    rw (le-leb (at + n) (length s) (omega (arith, l, m.1, h))) (ap Some (m.2 ∙ rw (whole, all)))
 
 -- the first elements of bytes are bytes, and so is each part
 pub take_below : (n : ℕ) (l : List ℕ) → ((i : ℕ) → get_or l i 0 < 256) → (i : ℕ) → get_or (take n l) i 0 < 256

@@ -1,10 +1,10 @@
 -- Loops that overwrite s from `at` on with w, some elements a turn: what stands there after i of them.
 use mathlib.Core.Path.{◌≡◌, refl, sym, ap, ◌∙◌}
-use mathlib.Core.List.{List, ◌++◌}
-use Prim.Native.Nat.{ℕ, ◌+◌, ◌-◌, ◌≤◌, ◌<◌}
+use mathlib.Core.List.{List, [], ◌∷◌, ◌++◌, append-nil}
+use Prim.Native.Nat.{ℕ, ◌+◌, ◌-◌, ◌*◌, ◌≤◌, ◌<◌, min}
 use native.Mathlib.Nat.{add-zero, zero-add}
 use native.Mathlib.Omega.{arith}
-use lib.ListN.{length, take, drop, get_or, set, length-drop, take-append-drop}
+use lib.ListN.{length, take, drop, get_or, set, length-append, length-drop, take-append-drop}
 use lib.Seq.{length-take-le, take-add, take_all, drop-drop, drop-length}
 use Rattle.sections.specs.Edit.{part, overwrite}
 use Rattle.sections.proofs.EditLaws.{part_length, part-one, part-part, part_same, part-before, part-after, overwrite-none, overwrite-one, overwrite-length, overwrite-then, overwrite-ahead}
@@ -54,6 +54,35 @@ module _ {s : List ℕ} {at : ℕ} {w b : List ℕ} {i : ℕ} (f : Forward s at 
   Forward-last n e =
       let h : i + (n - i) ≤ length w = omega (arith, f.low) in
       (Forward-turn (n - i) h).is ∙ ap (overwrite s at) (take_all (i + (n - i)) w (omega arith))
+
+-- ---- by pieces: what is left, put behind k pieces of 4,096, makes the whole
+
+pub record Pieces (whole b : List ℕ) (at k : ℕ) (rest : List ℕ) : Type 0 where
+  pub room : 0 < length rest → at + k * 4096 + length rest ≤ length b
+  pub is : overwrite b (at + k * 4096) rest ≡ whole
+
+pub Pieces-start : (s : List ℕ) (at : ℕ) (w : List ℕ) → at + length w ≤ length s → Pieces (overwrite s at w) s at 0 w
+Pieces-start s at w h = let e : at + 0 * 4096 ≡ at = omega arith in record { room = λ l. omega arith; is = rw e }
+
+module _ {whole b : List ℕ} {at k : ℕ} {rest : List ℕ} (p : Pieces whole b at k rest) where
+  -- a piece is short only where none is left behind it
+  pub Pieces-turn : (x left : List ℕ) → rest ≡ x ++ left → length x ≡ min 4096 (length rest) → Pieces whole (overwrite b (at + k * 4096) x) at (k + 1) left
+  Pieces-turn x [] e n = record { room = λ l. absurd (omega (arith, l)); is = overwrite-none _ _ ∙ rw (e, append-nil) at p.is }
+  Pieces-turn x (y ∷ ys) e n =
+      let both : length rest ≡ length x + length (y ∷ ys) = ap length e ∙ length-append x (y ∷ ys) in
+      let some : 0 < length (y ∷ ys) = omega arith in
+      let fit : at + k * 4096 + length rest ≤ length b = p.room (omega (arith, both, some)) in
+      let full : length x ≡ 4096 = omega (arith, both, some, n) in
+      let next : at + (k + 1) * 4096 ≡ at + k * 4096 + 4096 = omega arith in
+      let same : length (overwrite b (at + k * 4096) x) ≡ length b = overwrite-length b (at + k * 4096) x (omega (arith, both, fit)) in
+      record {
+        room = λ l. omega (arith, same, both, full, fit);
+        is = rw next (overwrite-then b (at + k * 4096) 4096 x (y ∷ ys) full (omega (arith, both, full, fit)) ∙ ap (overwrite b (at + k * 4096)) (sym e) ∙ p.is);
+      }
+
+pub Pieces-end : {whole b : List ℕ} {at k : ℕ} {rest : List ℕ} → Pieces whole b at k rest → length rest ≡ 0 → b ≡ whole
+Pieces-end {rest = []} p e = sym (overwrite-none _ _) ∙ p.is
+Pieces-end {rest = x ∷ left} p e = absurd (omega (arith, e))
 
 -- ---- the last first: all but the first i are put
 

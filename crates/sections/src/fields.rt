@@ -4,7 +4,6 @@ ghost use Rattle.std.specs.Prelude.{◌≡◌, cond, Some, None};
 ghost use Rattle.sections.specs.Edit.{part, fits, Edited};
 ghost use Rattle.sections.specs.Le.{bytes, field};
 
-use crate::edits::copy_into;
 use crate::range::ends_inside;
 
 // One byte, as a field of width 1.
@@ -35,25 +34,25 @@ pub fn u64_le(b: &[u8], off: usize) -> u64
 pub fn put_u8_le(b: &mut [u8], off: usize, v: u8) -> bool
     ensures { Edited (fits b.old off 1) b.old off (bytes 1 v) result b.new }
 {
-    copy_into(b, off, &[v])
+    put_bytes(b, off, [v])
 }
 
 pub fn put_u16_le(b: &mut [u8], off: usize, v: u16) -> bool
     ensures { Edited (fits b.old off 2) b.old off (bytes 2 v) result b.new }
 {
-    copy_into(b, off, &u16::to_le_bytes(v))
+    put_bytes(b, off, u16::to_le_bytes(v))
 }
 
 pub fn put_u32_le(b: &mut [u8], off: usize, v: u32) -> bool
     ensures { Edited (fits b.old off 4) b.old off (bytes 4 v) result b.new }
 {
-    copy_into(b, off, &u32::to_le_bytes(v))
+    put_bytes(b, off, u32::to_le_bytes(v))
 }
 
 pub fn put_u64_le(b: &mut [u8], off: usize, v: u64) -> bool
     ensures { Edited (fits b.old off 8) b.old off (bytes 8 v) result b.new }
 {
-    copy_into(b, off, &u64::to_le_bytes(v))
+    put_bytes(b, off, u64::to_le_bytes(v))
 }
 
 // The N bytes from `off` on, if they end inside the slice. Asked as `ends_inside` asks, which a loop over records asks once of the slice's length and once
@@ -65,4 +64,15 @@ fn bytes_at<const N: usize>(b: &[u8], off: usize) -> Option<[u8; N]>
         return None;
     }
     b[off..off + N].first_chunk().copied()
+}
+
+// The same for writing: so few bytes go in one piece.
+fn put_bytes<const N: usize>(b: &mut [u8], off: usize, v: [u8; N]) -> bool
+    ensures { Edited (fits b.old off N) b.old off v.entry result b.new }
+{
+    if !ends_inside(off, N, b.len()) {
+        return false;
+    }
+    b[off..off + N].copy_from_slice(&v);
+    true
 }

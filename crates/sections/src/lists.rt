@@ -11,7 +11,7 @@ use crate::reader::ResReader;
 pub struct Unresolved;
 
 // 16 bytes: pointer at 0, count at 8, capacity at 10.
-#[derive(Clone, Copy, Debug, PartialEq, Eq)]
+#[derive(Clone, Copy, Debug, Default, PartialEq, Eq)]
 pub struct PointerListHeader {
     pub pointer: u64,
     pub count: u16,
@@ -33,16 +33,17 @@ impl PointerListHeader {
 
 impl<'a> ResReader<'a> {
     // Where the elements of a list lie, count of width bytes each. A list with count 0 or pointer 0 is empty, never an error.
+    #[tactic(auto, unfolding(crate::specs::Lists::located_list))]
     pub fn locate_list(&self, va: u64, count: u32, width: u8) -> Result<Option<Located>, Unresolved>
         ensures { result ≡ located_list self.now va count width }
     {
         if count == 0 || va == 0 {
             return Ok(None);
         }
-        match self.locate(va, count as usize * width as usize) {
-            Some(place) => Ok(Some(place)),
-            None => Err(Unresolved),
-        }
+        let place = self
+            .locate(va, count as usize * width as usize)
+            .ok_or(Unresolved)?;
+        Ok(Some(place))
     }
 
     pub fn read_pointer_list_header(&self, va: u64) -> Option<PointerListHeader>

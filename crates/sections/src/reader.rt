@@ -44,16 +44,11 @@ impl<'a> ResReader<'a> {
         }
         if (va >> 30) % 2 + (va >> 29) % 2 == 2 {
             let at = (va - GRAPHICS_BASE) as usize;
-            if ends_inside(at, len, self.graphics.len()) {
-                return Some(Located::Graphics(at));
-            }
-            return None;
+            return ends_inside(at, len, self.graphics.len()).then_some(Located::Graphics(at));
         }
         if (va >> 30) % 2 + (va >> 28) % 2 == 2 {
             let at = (va - SYSTEM_BASE) as usize;
-            if ends_inside(at, len, self.system.len()) {
-                return Some(Located::System(at));
-            }
+            return ends_inside(at, len, self.system.len()).then_some(Located::System(at));
         }
         None
     }
@@ -76,11 +71,9 @@ impl<'a> ResReader<'a> {
     }
 }
 
+#[tactic(auto, unfolding(crate::specs::Address::part_of))]
 fn part_of<'a>(s: &'a [u8], at: usize, len: usize) -> Option<&'a [u8]>
     ensures { option_copied result ≡ part_of s.now at len }
 {
-    if !ends_inside(at, len, s.len()) {
-        return None;
-    }
-    Some(&s[at..at + len])
+    s.get(at..)?.get(..len)
 }

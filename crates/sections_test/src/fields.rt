@@ -31,7 +31,8 @@ fn write(b: &mut [u8], width: u64, off: usize, v: u64) -> bool {
 
 // The same in the first n bytes.
 fn write_first(b: &mut [u8], n: usize, width: u64, off: usize, v: u64) -> bool {
-    n <= b.len() && write(&mut b[..n], width, off, v)
+    b.get_mut(..n)
+        .is_some_and(|part| write(part, width, off, v))
 }
 
 // Writes the lowest bytes of d, and prints all 64 bytes of the buffer that the first b were lent of.

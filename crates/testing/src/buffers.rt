@@ -33,8 +33,8 @@ pub fn read_full(input: &mut impl Read, b: &mut [u8]) -> io::Result<usize>
 // Fills the first n bytes from the input, where the buffer has so many. Where the input has fewer, the others stay as
 // they were.
 pub fn read_first(input: &mut impl Read, b: &mut [u8], n: usize) -> io::Result<()> {
-    if n <= b.len() {
-        read_full(input, &mut b[..n])?;
+    if let Some(part) = b.get_mut(..n) {
+        read_full(input, part)?;
     }
     Ok(())
 }

@@ -32,9 +32,9 @@ none_stored : (s : Sections) → stored_declaration s 0 ≡ None
 unfolding stored_declaration
 none_stored s = ap (option_map (λ b. declaration_at b 0)) (zero-resolved s 16)
 
-pub plain-legacy : (s : Sections) (layout : VertexBufferLayout) (pointer count stride : ℕ) → legacy_at s layout pointer count stride 0 ≡ plain_at s layout pointer count stride
+pub plain_legacy : (s : Sections) (layout : VertexBufferLayout) (pointer count stride : ℕ) → legacy_at s layout pointer count stride 0 ≡ plain_at s layout pointer count stride
 unfolding legacy_at plain_at
-plain-legacy s layout pointer count stride = ap (λ (d : Option VertexDeclaration). found_at layout stride count pointer 0 d (vertex_data s pointer count stride)) (none_stored s)
+plain_legacy s layout pointer count stride = ap (λ (d : Option VertexDeclaration). found_at layout stride count pointer 0 d (vertex_data s pointer count stride)) (none_stored s)
 
 -- ---- a buffer that was found has its data
 

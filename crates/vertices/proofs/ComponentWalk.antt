@@ -1,7 +1,7 @@
 -- The walk over the flags: what the search for the next set flag keeps, and what is made of the components.
 use Rattle.std.proofs.Common.{◌≡◌, refl, sym, ◌∙◌, Bool, true, false, cond, List, [], ◌∷◌, ℕ, zero, suc, ◌+◌, ◌*◌, ◌-◌, ◌/◌, ◌%◌, ◌^◌, ◌≤◌, ◌<◌, eqb, arith}
 use Rattle.std.proofs.lemmas.Nat.{pow-add}
-use native.Mathlib.Nat.{mod-eq_of_lt, mul_assoc, mul_comm, mul-add, zero-add}
+use native.Mathlib.Nat.{mul_assoc, mul_comm, mul-add, zero-add}
 use Rattle.std.specs.List.{find, sum_by}
 use Rattle.std.proofs.lemmas.List.Sums.{sum_by-cons}
 use borrow.Author.Tests.{eq-eqb, ne_eqb}
@@ -133,16 +133,3 @@ placing_start d =
       flags = flags_from 16 0 d.flags d.types 0 (omega arith);
       fits = id_below 16 d.flags d.types;
     }
-
--- at a component: its nibble, none of whose bits is lost, is added
-pub placing_more : {whole id n : ℕ} {c : VertexComponent} {left rest : List VertexComponent} → Placing whole id left → left ≡ c ∷ rest → n ≡ nibble_of c.component_type
-    → (c.semantic_index < 16) × Placing whole (id + n * 2 ^ (4 * c.semantic_index) % 18446744073709551616) rest
-placing_more {whole} {id} {n} {c} {left} {rest} p e h =
-    let same : id + (n * 2 ^ (4 * c.semantic_index) + placed rest) ≡ whole = rw h (rw e at p.same) in
-    let flags : AllFlags (c ∷ rest) = rw e at p.flags in
-    let kept : n * 2 ^ (4 * c.semantic_index) % 18446744073709551616 ≡ n * 2 ^ (4 * c.semantic_index) = mod-eq_of_lt (omega (arith, p.fits)) in
-    (flags.0, record { same = rw kept (omega arith); flags = flags.1; fits = p.fits })
-
--- after the last: the whole id
-pub placing_end : {whole id : ℕ} {left : List VertexComponent} → Placing whole id left → left ≡ [] → id ≡ whole
-placing_end p e = omega (arith, rw e at p.same)

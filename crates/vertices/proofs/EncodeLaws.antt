@@ -1,7 +1,7 @@
 -- Laws of encoding: how many bytes, how numbers join, and what is read again.
 use mathlib.Core.Path.{◌≡◌, refl, sym, ap, subst, ◌∙◌}
 use mathlib.Core.Bool.{Bool, true, false, cond}
-use mathlib.Core.List.{List, [], ◌∷◌, ◌++◌, append-nil, map, map-append}
+use mathlib.Core.List.{List, [], ◌∷◌, ◌++◌, map, map-append}
 use Prim.Native.Nat.{ℕ, zero, suc, ◌+◌, ◌*◌, ◌^◌, ◌≤◌, ◌<◌}
 use native.Mathlib.Nat.{add-mul, add-zero, mul-le-mul_right, one-le-pow}
 use native.Mathlib.Numerals.{add-one}
@@ -9,10 +9,10 @@ use native.Mathlib.Omega.{arith}
 use borrow.Author.Tests.{eqb-true}
 use lib.Dec.{T, eqb, lit<}
 use lib.ListN.{length, get_or, take, length-map}
-use lib.Seq.{length-take-le, take_all, take-suc}
-use Rattle.sections.specs.Edit.{overwrite, fits, Edited}
+use lib.Seq.{length-take-le, take-suc}
+use Rattle.sections.specs.Edit.{overwrite}
 use Rattle.sections.specs.Le.{bytes, field}
-use Rattle.sections.proofs.EditLaws.{Edited-fits, overwrite-behind, overwrite-length, overwrite-none, part_same}
+use Rattle.sections.proofs.EditLaws.{overwrite-behind, overwrite-length, overwrite-none, part_same}
 use Rattle.sections.proofs.LeLaws.{length-bytes}
 use Rattle.vertices.specs.Types.{size_of}
 use Rattle.vertices.specs.Runs.{numbers, run}
@@ -56,21 +56,6 @@ size-count Colour = refl
 size-count Rgba8Snorm = refl
 size-count (Unknown n) = refl
 
--- a type of another width than 1, 2 and 4 has no bytes
-pub width-none : (t : VertexComponentType) → (width_of t ≡ 1 → ⊥) → (width_of t ≡ 2 → ⊥) → (width_of t ≡ 4 → ⊥) → width_of t ≡ 0
-width-none Nothing a b c = refl
-width-none Half2 a b c = absurd (b refl)
-width-none Float a b c = absurd (c refl)
-width-none Half4 a b c = absurd (b refl)
-width-none FloatUnknown a b c = refl
-width-none Float2 a b c = absurd (c refl)
-width-none Float3 a b c = absurd (c refl)
-width-none Float4 a b c = absurd (c refl)
-width-none UByte4 a b c = absurd (a refl)
-width-none Colour a b c = absurd (a refl)
-width-none Rgba8Snorm a b c = absurd (a refl)
-width-none (Unknown n) a b c = refl
-
 module _ (t : VertexComponentType) (v : VertexAttributeValue) (shape : has_shape t v ≡ true) where
   -- the numbers of a value of the type's shape fill the type's size
   pub shape_size : length (numbers_of v) * width_of t ≡ size_of t
@@ -91,84 +76,35 @@ runs_join k s at n xs ys e f g h =
     let m : at + n * k + length (run k ys) ≤ length s = rw length_run (omega arith) in
     overwrite-behind s at (run k xs) (n * k) (run k ys) f l g m ∙ ap (overwrite s at) (sym (run-append k xs ys))
 
--- two numbers, one behind the other
-pub two_join : (k : ℕ) (s : List ℕ) (at x y : ℕ) {t u : List ℕ} → t ≡ overwrite s at (bytes k x) → u ≡ overwrite t (at + k) (bytes k y) → at + 2 * k ≤ length s → u ≡ overwrite s at (run k (x ∷ y ∷ []))
-unfolding run
-two_join k s at x y f g h =
-    let m : at + k + length (bytes k y) ≤ length s = rw length-bytes (omega arith) in
-    rw append-nil (overwrite-behind s at (bytes k x) k (bytes k y) f (length-bytes k x) g m)
-
--- s with the first i of the numbers xs written from `off` on, each k bytes, b; the next goes to `at`
-pub record Encoding (k : ℕ) (f : ℕ → ℕ) (xs s : List ℕ) (off : ℕ) (b : List ℕ) (i at : ℕ) : Type 0 where
+-- s with the first i of the numbers xs written from `off` on, each k bytes, b
+pub record Encoding (k : ℕ) (f : ℕ → ℕ) (xs s : List ℕ) (off : ℕ) (b : List ℕ) (i : ℕ) : Type 0 where
   pub is : b ≡ overwrite s off (run k (map f (take i xs)))
   pub same : length b ≡ length s
-  pub place : at ≡ off + i * k
 
 module _ {k : ℕ} {f : ℕ → ℕ} {xs s : List ℕ} {off : ℕ} (room : off + length xs * k ≤ length s) where
   -- before the first
-  pub encoding_start : Encoding k f xs s off s 0 off
+  pub encoding_start : Encoding k f xs s off s 0
   unfolding run
-  encoding_start = record { is = sym (overwrite-none s off); same = refl; place = omega arith }
+  encoding_start = record { is = sym (overwrite-none s off); same = refl }
 
-  module _ {b : List ℕ} {i at : ℕ} (e : Encoding k f xs s off b i at) where
+  module _ {b : List ℕ} {i : ℕ} (e : Encoding k f xs s off b i) where
     -- there is room for the next
-    pub encoding_room : i < length xs → at + k ≤ length b
+    encoding_room : i < length xs → off + i * k + k ≤ length b
     encoding_room h =
         let m : (i + 1) * k ≤ length xs * k = mul-le-mul_right k (omega arith) in
         let n : (i + 1) * k ≡ i * k + k = rw add-mul (omega arith) in
-        omega (arith, e.same, e.place)
+        omega (arith, e.same)
 
     -- one more
-    pub encoding_turn : {x next : ℕ} {t : List ℕ} → i < length xs → x ≡ get_or xs i 0 → t ≡ overwrite b at (bytes k (f x)) → next ≡ at + k → Encoding k f xs s off t (i + 1) next
-    encoding_turn {x} {next} {t} h g u n =
+    pub encoding_turn : {x : ℕ} {t : List ℕ} → i < length xs → x ≡ get_or xs i 0 → t ≡ overwrite b (off + i * k) (bytes k (f x)) → Encoding k f xs s off t (i + 1)
+    encoding_turn {x} {t} h g u =
         let m : (i + 1) * k ≤ length xs * k = mul-le-mul_right k (omega arith) in
         let p : (i + 1) * k ≡ i * k + k = rw add-mul (omega arith) in
         let joined : map f (take (i + 1) xs) ≡ map f (take i xs) ++ f x ∷ [] = rw (add-one, take-suc xs i 0 h, ← g, map-append) in
         let size : length (map f (take i xs)) ≡ i = rw length-map (length-take-le i xs (omega arith)) in
-        let put : t ≡ overwrite b (off + i * k) (run k (f x ∷ [])) = rw (← e.place, run-one) u in
+        let put : t ≡ overwrite b (off + i * k) (run k (f x ∷ [])) = rw run-one u in
         let is : t ≡ overwrite s off (run k (map f (take i xs) ++ f x ∷ [])) = runs_join k s off i (map f (take i xs)) (f x ∷ []) size e.is put (omega arith) in
-        record {
-          is = rw joined is;
-          same = ap length u ∙ overwrite-length b at (bytes k (f x)) (rw length-bytes (encoding_room h)) ∙ e.same;
-          place = omega (arith, e.place);
-        }
-
-    -- after the last
-    pub encoding_end : i ≡ length xs → b ≡ overwrite s off (run k (map f xs))
-    encoding_end h = e.is ∙ ap (λ (ys : List ℕ). overwrite s off (run k (map f ys))) (take_all i xs (omega arith))
-
--- ---- what is written
-
-module _ (t : VertexComponentType) (n : ℕ) (s : List ℕ) (at : ℕ) where
-  -- k bytes, where the type has k for a number
-  pub number-written : (k x : ℕ) {e w : ℕ} {r : Bool} {u : List ℕ} → e ≡ stored_as t n → w ≡ width_of t → w ≡ k → bytes k x ≡ bytes k e → at + width_of t ≤ length s
-      → Edited (fits s at k) s at (bytes k x) r u → u ≡ overwrite s at (bytes (width_of t) (stored_as t n))
-  number-written k x e w q b h ed =
-      let p : width_of t ≡ k = sym w ∙ q in
-      let fit : at + k ≤ length s = rw p at h in
-      Edited-fits k ed fit ∙ rw (p, ← e, b)
-
-  -- nothing, where the type has no bytes
-  pub number-none : {w : ℕ} → w ≡ width_of t → (w ≡ 1 → ⊥) → (w ≡ 2 → ⊥) → (w ≡ 4 → ⊥) → s ≡ overwrite s at (bytes (width_of t) (stored_as t n))
-  unfolding bytes
-  number-none w a b c =
-      let z : width_of t ≡ 0 = width-none t (λ e. a (w ∙ e)) (λ e. b (w ∙ e)) (λ e. c (w ∙ e)) in
-      rw z (sym (overwrite-none s at))
-
-module _ (t : VertexComponentType) {v v' : VertexAttributeValue} (e : v ≡ v') where
-  -- there is room for each number of a value that has the type's shape
-  pub shape_room : (at n : ℕ) → has_shape t v ≡ true → at + size_of t ≤ n → at + length (numbers_of v') * width_of t ≤ n
-  shape_room at n shape h = rw (← e, shape_size t v shape) h
-
-  -- its numbers one behind the other are its encoding
-  pub value_written : (s : List ℕ) (at : ℕ) {u : List ℕ} → u ≡ overwrite s at (run (width_of t) (map (stored_as t) (numbers_of v'))) → u ≡ overwrite s at (encoded_bytes t v)
-  unfolding encoded_bytes
-  value_written s at h = rw e h
-
--- no number, no change
-pub nothing_written : (k : ℕ) (s : List ℕ) (at : ℕ) → s ≡ overwrite s at (run k [])
-unfolding run
-nothing_written k s at = sym (overwrite-none s at)
+        record { is = rw joined is; same = ap length u ∙ overwrite-length b (off + i * k) (bytes k (f x)) (rw length-bytes (encoding_room h)) ∙ e.same }
 
 -- ---- what is read again
 

@@ -141,7 +141,8 @@ module _ (b r : ℕ) (w : b < 2 ^ 32) (z : Nearest b r) where
             omega arith;
       }
 
--- A float is rounded to the nearest of all halves, at a tie to the one whose last bit is 0, with its sign; an infinity stays one; a NaN keeps its upper ten fraction bits and is quiet.
+-- A float is rounded to the nearest of all halves, at a tie to the one whose last bit is 0, with its sign; an infinity stays one; a NaN
+-- keeps its upper ten fraction bits and is quiet.
 pub encodes : (b : ℕ) → b < 2 ^ 32 → Encoded b (f32_to_f16 b)
 encodes b w =
     let m = b % 2147483648 in

@@ -19,10 +19,6 @@ use Rattle.vertices.proofs.LaneLaws.{word_is, all_words, lane_reads}
 
 -- ---- lane after lane
 
--- before the first
-pub block_start : {p : UnifiedPlan} {s : List ℕ} {stride first end : ℕ} {b : List ℕ} → BlockWritten p s stride first end 0 b b
-block_start = record { same = refl; done = λ i k l h z. absurd (omega arith); kept = λ q h. h; rest = λ at n h. refl }
-
 module _ {p : UnifiedPlan} {s : List ℕ} {stride first end j : ℕ} {b t : List ℕ} (c : BlockWritten p s stride first end j b t) where
   -- one lane more
   pub Block-turn : j < 21 → {u : List ℕ} → LaneWritten (lane_of p j) stride s (record { first = first; end = end; word = j }) t u → BlockWritten p s stride first end (j + 1) b u
@@ -53,10 +49,6 @@ module _ {p : UnifiedPlan} {s : List ℕ} {stride first end j : ℕ} {b t : List
   }
 
 -- ---- block after block
-
--- the first block begins as it is
-pub begun_first : {end : ℕ} {b : List ℕ} → BlockBegun 0 end b b
-begun_first = record { same = refl; before = λ q h. refl; copied = λ h. absurd (omega arith); rest = λ at n h. refl }
 
 -- a later one as a copy of vertices before it
 pub begun_copy : {first end : ℕ} {b t : List ℕ} {r : Bool} → first ≤ end → end - first ≤ first → 84 * end ≤ length b

@@ -1,5 +1,5 @@
 -- Loops over one lane: what stands in out after each turn, for every kind of lane.
-use mathlib.Core.Path.{◌≡◌, refl, sym, ap, ◌∙◌}
+use mathlib.Core.Path.{◌≡◌, sym, ap, ◌∙◌}
 use mathlib.Core.List.{List}
 use mathlib.Core.Logic.{⊎_elim}
 use Prim.Native.Nat.{ℕ, ◌+◌, ◌-◌, ◌*◌, ◌≤◌, ◌<◌}
@@ -24,13 +24,6 @@ lane_bytes-length (Snorm off) s base = length-bytes 4 _
 lane_bytes-length (Unorm off) s base = length-bytes 4 _
 lane_bytes-length (Raw off) s base = length_run 1 _
 lane_bytes-length (Rgba8 t off) s base = length_run 1 _
-
--- before the first vertex, and where nothing is to be written: the words stand already
-pub Words-nothing : {g : ℕ → List ℕ} {first end j : ℕ} {b : List ℕ} → ((i : ℕ) → first ≤ i → i < end → part b (i * 84 + 4 * j) 4 ≡ g i) → WordsWritten g first end j b b
-Words-nothing f = record { same = refl; here = f; kept = λ q word f h. h; rest = λ at n h. refl }
-
-pub Words-start : {g : ℕ → List ℕ} {first j : ℕ} {b : List ℕ} → WordsWritten g first first j b b
-Words-start = Words-nothing (λ i h l. absurd (omega arith))
 
 module _ {g : ℕ → List ℕ} {first i j : ℕ} {b t : List ℕ} (c : WordsWritten g first i j b t) (low : j < 21) where
   -- one vertex more

@@ -4,7 +4,7 @@ use mathlib.Core.Bool.{Bool, true, false}
 use mathlib.Core.List.{List, [], ◌∷◌}
 use mathlib.Core.Logic.{⊎_elim}
 use Prim.Native.Nat.{ℕ, zero, suc, ◌+◌, ◌-◌, ◌*◌, ◌≤◌, ◌<◌}
-use native.Mathlib.Nat.{eq-zero-or-pos, mul-le-mul, mul-le-mul_right}
+use native.Mathlib.Nat.{eq-zero-or-pos, mul-le-mul_right}
 use native.Mathlib.Omega.{arith}
 use borrow.Author.Tests.{eq-eqb, ne_eqb, le-leb, leb-true}
 use lib.Dec.{eqb, leb}
@@ -19,13 +19,6 @@ use Rattle.vertices.specs.declared.declaration.VertexDeclaration.{VertexDeclarat
 use Rattle.vertices.proofs.ComponentLaws.{by_flags, item, component-within, inside-total}
 
 -- ---- no sum wraps
-
--- an index below 2^32 times a stride below 2^16 is below 2^48
-pub product_bound : (index stride : ℕ) → index < 4294967296 → stride < 65536 → index * stride < 281474976710656
-product_bound index stride h l =
-    let i : index ≤ 4294967295 = omega arith in
-    let s : stride ≤ 65535 = omega arith in
-    omega (arith, mul-le-mul i s)
 
 -- ---- as facts
 

@@ -1,4 +1,5 @@
--- The test vectors of document 01 (its starred soundings) that are about vertices. `Vectors` of images proves them, with that of the empty hall, by one computation over the whole list.
+-- The test vectors of document 01 (its starred soundings) that are about vertices. `Vectors` of images proves them, with that of the empty
+-- hall, by one computation over the whole list.
 use mathlib.Core.Path.{◌≡◌}
 use mathlib.Core.Bool.{Bool, true, false, cond, ◌&&◌}
 use mathlib.Core.List.{List, [], ◌∷◌}

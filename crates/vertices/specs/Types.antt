@@ -66,3 +66,23 @@ named_semantics = Position ∷ BlendWeights ∷ BlendIndices ∷ Normal ∷ Colo
 -- the semantic of a number, Unknown from 16 on
 unfoldable pub semantic_of : ℕ → VertexSemantic
 semantic_of n = get_or named_semantics n (UnknownSemantic n)
+
+-- the number of a semantic
+abbrev pub index_of : VertexSemantic → ℕ
+index_of Position = 0
+index_of BlendWeights = 1
+index_of BlendIndices = 2
+index_of Normal = 3
+index_of Colour0 = 4
+index_of Colour1 = 5
+index_of TexCoord0 = 6
+index_of TexCoord1 = 7
+index_of TexCoord2 = 8
+index_of TexCoord3 = 9
+index_of TexCoord4 = 10
+index_of TexCoord5 = 11
+index_of TexCoord6 = 12
+index_of TexCoord7 = 13
+index_of Tangent = 14
+index_of Binormal = 15
+index_of (UnknownSemantic n) = n

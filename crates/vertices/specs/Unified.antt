@@ -123,7 +123,7 @@ vertices_inside d n stride (suc count) = vertices_inside d n stride count && all
 abbrev pub stated : Result ℕ UnifyError → ℕ × ℕ
 stated (Ok n) = (0, n)
 stated (Err OutsideData) = (9, 0)
-stated (Err (NeedsBytes n)) = (10, n)
+stated (Err (NeedsBytes needed)) = (10, needed.0)
 
 -- What unifying s answers, r, and leaves of out, t: 9 before 10, and a refusal leaves out as it was.
 pub record Unified (d : VertexDeclaration) (s : List ℕ) (stride count : ℕ) (out : List ℕ) (r : Result ℕ UnifyError) (t : List ℕ) : Type 0 where

@@ -1,11 +1,15 @@
 // Attribute values: one component of one vertex, read from the data and seen as a vector or a colour.
+#![tactic(auto, using(sections::proofs::LeLaws::field_in))]
+
 ghost use Rattle.std.specs.Prelude.{◌≡◌, true, ◌+◌, ◌≤◌, ◌<◌, length};
+ghost use Rattle.sections.specs.Le.{field};
 ghost use Rattle.vertices.specs.Types.{size_of};
 ghost use Rattle.vertices.specs.Normalised.{unorm8_to_f32};
-ghost use Rattle.vertices.specs.Attribute.{component_inside, attribute_at, float_at, half_at, snorm_at, bytes_at, value_at, as_vec2, as_vec3, as_vec4, colour_of, white, as_rgba8};
+ghost use Rattle.vertices.specs.Attribute.{component_inside, attribute_at, float_at, half_at, snorm_at, bytes_at, value_at};
+ghost use Rattle.vertices.specs.Attribute.{as_vec2, as_vec3, as_vec4, colour_of, as_rgba8};
 
 use crate::halves::f16_to_f32;
-use crate::known::{u8_at, u16_at, u32_at};
+use crate::known::Stored;
 use crate::normalised::{f32_to_unorm8, snorm_colour8, snorm8_to_f32, unorm8_to_f32};
 use crate::types::{VertexComponent, VertexComponentType};
 use crate::values::{Bytes4, F32, Vec2, Vec3, Vec4};
@@ -65,6 +69,7 @@ impl VertexAttributeValue {
     }
 }
 
+// Names of the original Rust.
 impl VertexAttribute {
     pub fn as_vec2(self) -> Vec2
         ensures { result ≡ as_vec2 self.value }
@@ -106,7 +111,7 @@ pub fn as_rgba8(component_type: VertexComponentType, value: VertexAttributeValue
         VertexAttributeValue::One(_)
         | VertexAttributeValue::Two(_)
         | VertexAttributeValue::Three(_)
-        | VertexAttributeValue::Unsupported => white(),
+        | VertexAttributeValue::Unsupported => Bytes4::WHITE,
     }
 }
 
@@ -116,17 +121,6 @@ fn colour_of(component_type: VertexComponentType, f: F32) -> u8
     match component_type {
         VertexComponentType::Rgba8Snorm => snorm_colour8(f.bits),
         _ => f32_to_unorm8(f.bits),
-    }
-}
-
-pub fn white() -> Bytes4
-    ensures { result ≡ white }
-{
-    Bytes4 {
-        a: 255,
-        b: 255,
-        c: 255,
-        d: 255,
     }
 }
 
@@ -191,12 +185,13 @@ pub fn value_at(
     }
 }
 
+// Four functions: with the conversion as an argument of one over `Stored`, write_strip takes eight lines for each kind of lane and is over forty.
 pub fn float_at(data: &[u8], off: usize) -> F32
     requires { off + 4 ≤ length «data».now }
     ensures { result ≡ float_at «data».now off }
 {
     F32 {
-        bits: u32_at(data, off),
+        bits: u32::get(data, off),
     }
 }
 
@@ -205,7 +200,7 @@ pub fn half_at(data: &[u8], off: usize) -> F32
     ensures { result ≡ half_at «data».now off }
 {
     F32 {
-        bits: f16_to_f32(u16_at(data, off)),
+        bits: f16_to_f32(u16::get(data, off)),
     }
 }
 
@@ -214,8 +209,23 @@ pub fn snorm_at(data: &[u8], off: usize) -> F32
     ensures { result ≡ snorm_at «data».now off }
 {
     F32 {
-        bits: snorm8_to_f32(u8_at(data, off)),
+        bits: snorm8_to_f32(u8::get(data, off)),
     }
+}
+
+pub fn unorm_at(data: &[u8], off: usize) -> F32
+    requires { off + 1 ≤ length «data».now }
+    ensures { result ≡ record { bits = unorm8_to_f32 (field 1 «data».now off) } }
+{
+    unorm(u8::get(data, off))
+}
+
+// The value of a type at such a place, as a colour.
+pub fn rgba8_at(data: &[u8], off: usize, component_type: VertexComponentType) -> Bytes4
+    requires { off + size_of component_type ≤ length «data».now }
+    ensures { result ≡ as_rgba8 component_type (value_at component_type «data».now off) }
+{
+    as_rgba8(component_type, value_at(data, off, component_type))
 }
 
 pub fn bytes4_at(data: &[u8], off: usize) -> Bytes4
@@ -223,9 +233,9 @@ pub fn bytes4_at(data: &[u8], off: usize) -> Bytes4
     ensures { result ≡ bytes_at «data».now off }
 {
     Bytes4 {
-        a: u8_at(data, off),
-        b: u8_at(data, off + 1),
-        c: u8_at(data, off + 2),
-        d: u8_at(data, off + 3),
+        a: u8::get(data, off),
+        b: u8::get(data, off + 1),
+        c: u8::get(data, off + 2),
+        d: u8::get(data, off + 3),
     }
 }

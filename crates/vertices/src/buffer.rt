@@ -8,10 +8,18 @@ use sections::{Located, ResReader, u16_le, u32_le, u64_le};
 // Which layout the vertices were found by.
 #[derive(Clone, Copy, Debug, PartialEq, Eq)]
 pub enum VertexBufferLayout {
-    Legacy,
-    LegacyData2,
-    Gen9,
-    GeometryInline,
+    Legacy = 0,
+    LegacyData2 = 1,
+    Gen9 = 2,
+    GeometryInline = 3,
+}
+
+// Where vertices are stored one behind another, and how many of how many bytes each.
+#[derive(Clone, Copy)]
+struct Stream {
+    pointer: u64,
+    count: u32,
+    stride: u16,
 }
 
 // `data` is where the count × stride bytes lie.
@@ -30,12 +38,7 @@ impl VertexBufferLayout {
     pub fn number(self) -> u8
         ensures { result ≡ layout_number self }
     {
-        match self {
-            VertexBufferLayout::Legacy => 0,
-            VertexBufferLayout::LegacyData2 => 1,
-            VertexBufferLayout::Gen9 => 2,
-            VertexBufferLayout::GeometryInline => 3,
-        }
+        self as u8
     }
 }
 
@@ -44,14 +47,13 @@ impl VertexBuffer {
     pub fn or_position_only(self) -> VertexDeclaration
         ensures { result ≡ or_position_only self.declaration self.vertex_stride }
     {
-        match self.declaration {
-            Some(declaration) => declaration,
-            None => VertexDeclaration::position_only(self.vertex_stride),
-        }
+        self.declaration
+            .unwrap_or_else(|| VertexDeclaration::position_only(self.vertex_stride))
     }
 }
 
 // The first layout whose data resolves: those of the block behind va in order, else the geometry's own stream.
+#[tactic(auto, using(crate::proofs::BufferLaws::plain_legacy), unfolding(crate::specs::Buffer::vertex_buffer_at))]
 pub fn parse_vertex_buffer_at(
     reader: &ResReader,
     va: u64,
@@ -61,76 +63,66 @@ pub fn parse_vertex_buffer_at(
 ) -> Option<VertexBuffer>
     ensures { result ≡ vertex_buffer_at reader.now va inline_data_pointer inline_vertex_count inline_vertex_stride }
 {
-    if let Some(raw) = reader.resolve(va, 0x80) {
-        if let Some(buffer) = block_buffer(reader, raw) {
-            return Some(buffer);
-        }
+    let inline = Stream {
+        pointer: inline_data_pointer,
+        count: inline_vertex_count,
+        stride: inline_vertex_stride,
+    };
+    // Not by `or_else`: of a closure handed to it that captures a reader the check infers no result; with a clause in it all is longer, and was not proved.
+    if let Some(raw) = reader.resolve(va, 0x80)
+        && let Some(buffer) = block_buffer(reader, raw)
+    {
+        return Some(buffer);
     }
-    buffer_at(
-        reader,
-        VertexBufferLayout::GeometryInline,
-        inline_data_pointer,
-        inline_vertex_count,
-        inline_vertex_stride,
-        0,
-    )
+    buffer_at(reader, VertexBufferLayout::GeometryInline, inline, 0)
 }
 
-// The block's three layouts.
+// The block's three layouts. A later one is looked up where those before it are not found.
+#[tactic(auto, using(crate::proofs::BufferLaws::plain_legacy), unfolding(crate::specs::Buffer::block_buffer))]
 fn block_buffer(reader: &ResReader, raw: &[u8]) -> Option<VertexBuffer>
     ensures { result ≡ block_buffer reader.now raw.now }
 {
-    let stride = u16_le(raw, 0x08);
     let count = u32_le(raw, 0x18);
+    let stride = u16_le(raw, 0x08);
     let info = u64_le(raw, 0x30);
-    let first = u64_le(raw, 0x10);
-    if let Some(buffer) = buffer_at(
-        reader,
-        VertexBufferLayout::Legacy,
-        first,
-        count,
-        stride,
-        info,
-    ) {
+    let legacy = |layout: VertexBufferLayout, pointer: u64| {
+        let stream = Stream {
+            pointer,
+            count,
+            stride,
+        };
+        buffer_at(reader, layout, stream, info)
+    };
+    // Not by `or_else`, as above; `legacy` is called here itself, and its result is known.
+    if let Some(buffer) = legacy(VertexBufferLayout::Legacy, u64_le(raw, 0x10)) {
         return Some(buffer);
     }
-    let second = u64_le(raw, 0x20);
-    if let Some(buffer) = buffer_at(
-        reader,
-        VertexBufferLayout::LegacyData2,
-        second,
-        count,
-        stride,
-        info,
-    ) {
+    if let Some(buffer) = legacy(VertexBufferLayout::LegacyData2, u64_le(raw, 0x20)) {
         return Some(buffer);
     }
-    buffer_at(
-        reader,
-        VertexBufferLayout::Gen9,
-        u64_le(raw, 0x18),
-        u32_le(raw, 0x08),
-        u16_le(raw, 0x0C),
-        0,
-    )
+    let gen9 = Stream {
+        pointer: u64_le(raw, 0x18),
+        count: u32_le(raw, 0x08),
+        stride: u16_le(raw, 0x0C),
+    };
+    buffer_at(reader, VertexBufferLayout::Gen9, gen9, 0)
 }
 
 // A layout, with the declaration behind its info pointer. One without an info pointer has 0 there, behind which nothing lies.
+#[tactic(auto, unfolding(crate::specs::Buffer::legacy_at))]
 fn buffer_at(
     reader: &ResReader,
     layout: VertexBufferLayout,
-    pointer: u64,
-    count: u32,
-    stride: u16,
+    stream: Stream,
     info: u64,
 ) -> Option<VertexBuffer>
-    ensures { result ≡ legacy_at reader.now layout pointer count stride info }
+    ensures { result ≡ legacy_at reader.now layout stream.pointer stream.count stream.stride info }
 {
-    let data = vertex_data(reader, pointer, count, stride)?;
+    let data = vertex_data(reader, stream)?;
     Some(VertexBuffer {
-        vertex_stride: stride,
-        vertex_count: count,
-        data_pointer: pointer,
+        vertex_stride: stream.stride,
+        vertex_count: stream.count,
+        data_pointer: stream.pointer,
         info_pointer: info,
         declaration: stored_declaration(reader, info),
         data,
@@ -138,18 +130,22 @@ fn buffer_at(
     })
 }
 
-fn vertex_data(reader: &ResReader, pointer: u64, count: u32, stride: u16) -> Option<Located>
-    ensures { result ≡ vertex_data reader.now pointer count stride }
+#[tactic(auto, unfolding(crate::specs::Buffer::vertex_data))]
+fn vertex_data(reader: &ResReader, stream: Stream) -> Option<Located>
+    ensures { result ≡ vertex_data reader.now stream.pointer stream.count stream.stride }
 {
-    if pointer == 0 || count == 0 || stride == 0 {
+    if stream.pointer == 0 || stream.count == 0 || stream.stride == 0 {
         return None;
     }
-    reader.locate(pointer, count as usize * stride as usize)
+    reader.locate(
+        stream.pointer,
+        stream.count as usize * stream.stride as usize,
+    )
 }
 
+#[tactic(auto, unfolding(crate::specs::Buffer::stored_declaration))]
 fn stored_declaration(reader: &ResReader, info: u64) -> Option<VertexDeclaration>
     ensures { result ≡ stored_declaration reader.now info }
 {
-    let raw = reader.resolve(info, 16)?;
-    Some(read_declaration(raw, 0))
+    reader.resolve(info, 16).map(|raw| read_declaration(raw, 0))
 }

@@ -49,7 +49,7 @@ impl Iterator for Components {
 
     ghost remaining = { item_count (λ rest. rest) };
 
-    // A `while`, not a `for`: a turn goes on where the call before stopped, at any flag.
+    // A `while`: of `(self.index..16).find_map(..)` the sums in its closure were not proved to fit, and `for index in self.index..16` has the place twice.
     fn next(&mut self) -> Option<VertexComponent> {
         while self.index < 16 && self.flags != 0 {
             let index = self.index;
@@ -69,6 +69,7 @@ impl Iterator for Components {
 }
 
 impl ExactSizeIterator for Components {
+    // Field by field: `clone` may fail here, and `Copy` is not to be had with a view that does not give the fields back.
     fn len(&self) -> usize {
         let rest = Components {
             index: self.index,

@@ -45,11 +45,8 @@ pub fn encode_value(
 ) -> bool
     ensures { Edited (has_shape component_type value && fits buf.old off (size_of component_type)) buf.old off (encoded_bytes component_type value) result buf.new }
 {
-    if !has_shape(component_type, value) {
-        return false;
-    }
     let size = component_type.size_in_bytes() as usize;
-    if !sections::ends_inside(off, size, buf.len()) {
+    if !has_shape(component_type, value) || !sections::ends_inside(off, size, buf.len()) {
         return false;
     }
     put_value(buf, off, component_type, value);
@@ -71,16 +68,6 @@ fn width_of(component_type: VertexComponentType) -> usize
         VertexComponentType::Nothing
         | VertexComponentType::FloatUnknown
         | VertexComponentType::Unknown(_) => 0,
-    }
-}
-
-fn stored_as(component_type: VertexComponentType, number: u32) -> u32
-    ensures { result ≡ stored_as component_type number }
-{
-    match component_type {
-        VertexComponentType::Half2 | VertexComponentType::Half4 => u32::from(f32_to_f16(number)),
-        VertexComponentType::Rgba8Snorm => u32::from(f32_to_snorm8(number)),
-        _ => number,
     }
 }
 
@@ -133,22 +120,31 @@ fn put_numbers(buf: &mut [u8], off: usize, component_type: VertexComponentType, 
     requires { off + length numbers.now * width_of component_type ≤ length buf.old }
     ensures { buf.new ≡ overwrite buf.old off (run (width_of component_type) (map (stored_as component_type) numbers.now)) }
 {
-    let mut at = off;
-    for &number in numbers {
-        put_number(buf, at, component_type, number);
-        at += width_of(component_type);
+    let width = width_of(component_type);
+    for (i, &number) in numbers.iter().enumerate() {
+        put_number(buf, off + i * width, component_type, number);
     }
 }
 
+// The low byte of a number that is stored as a byte.
 fn put_number(buf: &mut [u8], off: usize, component_type: VertexComponentType, number: u32)
     requires { off + width_of component_type ≤ length buf.old }
     ensures { buf.new ≡ overwrite buf.old off (bytes (width_of component_type) (stored_as component_type number)) }
 {
-    let element = stored_as(component_type, number);
-    match width_of(component_type) {
-        1 => sections::put_u8_le(buf, off, (element % 256) as u8),
-        2 => sections::put_u16_le(buf, off, (element % 65536) as u16),
-        4 => sections::put_u32_le(buf, off, element),
-        _ => false,
+    match component_type {
+        VertexComponentType::Half2 | VertexComponentType::Half4 => {
+            sections::put_u16_le(buf, off, f32_to_f16(number))
+        }
+        VertexComponentType::Rgba8Snorm => { sections::put_u8_le(buf, off, f32_to_snorm8(number)) }
+        VertexComponentType::UByte4 | VertexComponentType::Colour => {
+            sections::put_u8_le(buf, off, (number % 256) as u8)
+        }
+        VertexComponentType::Float
+        | VertexComponentType::Float2
+        | VertexComponentType::Float3
+        | VertexComponentType::Float4 => sections::put_u32_le(buf, off, number),
+        VertexComponentType::Nothing
+        | VertexComponentType::FloatUnknown
+        | VertexComponentType::Unknown(_) => false,
     };
 }

@@ -4,6 +4,7 @@ ghost use Rattle.std.specs.Prelude.{◌≡◌, cond, ◌%◌, ◌<◌, ltb};
 ghost use Rattle.std.specs.Float.Ieee.{lt};
 ghost use Rattle.vertices.specs.Half.{decoded, encoded, f16_to_f32, f32_to_f16};
 ghost use Rattle.vertices.specs.Normalised.{number};
+ghost use Rattle.vertices.specs.Inner.Small.{small};
 
 // The float's bits that stand for the same number as the half's, for the same infinity, or for a NaN with the same sign and payload.
 pub fn f16_to_f32(value: u16) -> u32
@@ -52,7 +53,7 @@ pub fn f32_to_f16(bits: u32) -> u16
 
 // The same for a float below 65,536 in size.
 pub fn small_f32_to_f16(bits: u32) -> u16
-    requires { bits % 2147483648 < 1199570944 }
+    requires { small bits }
     ensures { result ≡ f32_to_f16 bits }
 {
     with_sign(bits, half_of_small(bits % 0x8000_0000))

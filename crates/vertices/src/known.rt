@@ -4,42 +4,7 @@
 ghost use Rattle.std.specs.Prelude.{◌≡◌, ℕ, ◌<◌, ◌+◌, ◌≤◌, length};
 ghost use Rattle.std.proofs.Common.{rules};
 ghost use Rattle.sections.specs.Edit.{part, overwrite};
-ghost use Rattle.sections.specs.Le.{le, bytes, field};
-
-pub fn u8_at(b: &[u8], off: usize) -> u8
-    requires { off + 1 ≤ length b.now }
-    ensures { result ≡ field 1 b.now off }
-{
-    b[off]
-}
-
-pub fn u16_at(b: &[u8], off: usize) -> u16
-    requires { off + 2 ≤ length b.now }
-    ensures { result ≡ le (part b.now off 2) }
-{
-    u16::from_le_bytes([b[off], b[off + 1]])
-}
-
-pub fn u32_at(b: &[u8], off: usize) -> u32
-    requires { off + 4 ≤ length b.now }
-    ensures { result ≡ le (part b.now off 4) }
-{
-    u32::from_le_bytes([b[off], b[off + 1], b[off + 2], b[off + 3]])
-}
-
-pub fn set_u16(b: &mut [u8], off: usize, v: u16)
-    requires { off + 2 ≤ length b.old }
-    ensures { b.new ≡ overwrite b.old off (bytes 2 v) }
-{
-    b[off..off + 2].copy_from_slice(&v.to_le_bytes());
-}
-
-pub fn set_u32(b: &mut [u8], off: usize, v: u32)
-    requires { off + 4 ≤ length b.old }
-    ensures { b.new ≡ overwrite b.old off (bytes 4 v) }
-{
-    b[off..off + 4].copy_from_slice(&v.to_le_bytes());
-}
+ghost use Rattle.sections.specs.Le.{le, bytes};
 
 // A number stored as its little-endian bytes.
 pub trait Stored: Copy {
@@ -88,11 +53,11 @@ impl Stored for u16 {
     ghost some_bytes = { Prim.search rules };
 
     fn get(b: &[u8], off: usize) -> u16 {
-        u16_at(b, off)
+        u16::from_le_bytes([b[off], b[off + 1]])
     }
 
     fn set(self, b: &mut [u8], off: usize) {
-        set_u16(b, off, self);
+        b[off..off + 2].copy_from_slice(&self.to_le_bytes());
     }
 }
 
@@ -106,10 +71,10 @@ impl Stored for u32 {
     ghost some_bytes = { Prim.search rules };
 
     fn get(b: &[u8], off: usize) -> u32 {
-        u32_at(b, off)
+        u32::from_le_bytes([b[off], b[off + 1], b[off + 2], b[off + 3]])
     }
 
     fn set(self, b: &mut [u8], off: usize) {
-        set_u32(b, off, self);
+        b[off..off + 4].copy_from_slice(&self.to_le_bytes());
     }
 }

@@ -1,7 +1,5 @@
 // What each word of a unified vertex is made from. A unified vertex is 21 words of 4 bytes, and each has one source, its lane, in every vertex: as_vec2 and
 // as_vec3 are the first words of as_vec4 for every type, and a colour or blend indices are one word.
-#![tactic(auto, unfolding(crate::specs::Inner::Lanes::lane_of, crate::specs::Inner::Lanes::front_lane, crate::specs::Inner::Lanes::back_lane, crate::specs::Inner::Lanes::vector_lane, crate::specs::Inner::Lanes::colour_lane, crate::specs::Inner::Lanes::index_lane))]
-
 ghost use Rattle.std.specs.Prelude.{◌≡◌, ◌<◌, ◌≤◌};
 ghost use Rattle.vertices.specs.Unified.{holds_indices};
 ghost use Rattle.vertices.specs.Inner.Lanes.{element_lane, missing_word, place_lane, rgba8_lane, vector_lane, colour_lane, index_lane};
@@ -9,11 +7,9 @@ ghost use Rattle.vertices.specs.Inner.Lanes.{default_word, lane_of};
 
 use crate::types::{VertexComponent, VertexComponentType};
 use crate::unify::UnifiedPlan;
+use crate::values::F32;
 
-// The bits of 1.0.
-const ONE: u32 = 0x3F80_0000;
-
-// A colour's four bytes of 255.
+// `Bytes4::WHITE` as a word.
 const WHITE: u32 = 0xFFFF_FFFF;
 
 // Where a word comes from. The number is an offset in the vertex, that of Constant the word itself.
@@ -34,6 +30,7 @@ pub enum Lane {
 }
 
 // The lane of the word j, of 21, in the order of the fields.
+#[tactic(auto, unfolding(crate::specs::Inner::Lanes::lane_of, crate::specs::Inner::Lanes::front_lane, crate::specs::Inner::Lanes::back_lane))]
 pub fn lane_of(plan: UnifiedPlan, j: usize) -> Lane
     ensures { result ≡ lane_of plan j }
 {
@@ -55,19 +52,19 @@ fn default_word(j: usize) -> u32
     ensures { result ≡ default_word j }
 {
     match j {
-        5 | 12 | 15 => ONE,
+        5 | 12 | 15 => F32::ONE.bits,
         _ => 0,
     }
 }
 
 // The place k of a vector.
+#[tactic(auto, unfolding(crate::specs::Inner::Lanes::vector_lane))]
 fn vector_lane(found: Option<VertexComponent>, k: usize, default: u32) -> Lane
     ensures { result ≡ vector_lane found k default }
 {
-    match found {
-        Some(component) => place_lane(component, k),
-        None => Lane::Constant(default),
-    }
+    found.map_or(Lane::Constant(default), |component| {
+        place_lane(component, k)
+    })
 }
 
 fn place_lane(component: VertexComponent, k: usize) -> Lane
@@ -104,21 +101,18 @@ fn missing_word(n: u8, k: usize) -> u32
     ensures { result ≡ missing_word n k }
 {
     if n != 0 && k == 3 {
-        return ONE;
+        return F32::ONE.bits;
     }
     0
 }
 
+#[tactic(auto, unfolding(crate::specs::Inner::Lanes::colour_lane))]
 fn colour_lane(found: Option<VertexComponent>) -> Lane
     ensures { result ≡ colour_lane found }
 {
-    match found {
-        Some(component) => {
-            let component_type = component.component_type;
-            rgba8_lane(component_type, usize::from(component.offset))
-        }
-        None => Lane::Constant(WHITE),
-    }
+    found.map_or(Lane::Constant(WHITE), |component| {
+        rgba8_lane(component.component_type, usize::from(component.offset))
+    })
 }
 
 fn rgba8_lane(component_type: VertexComponentType, at: usize) -> Lane
@@ -139,18 +133,15 @@ fn rgba8_lane(component_type: VertexComponentType, at: usize) -> Lane
     }
 }
 
+#[tactic(auto, unfolding(crate::specs::Inner::Lanes::index_lane))]
 fn index_lane(found: Option<VertexComponent>) -> Lane
     ensures { result ≡ index_lane found }
 {
     match found {
-        Some(component) => {
-            let component_type = component.component_type;
-            if holds_indices(component_type) {
-                return rgba8_lane(component_type, usize::from(component.offset));
-            }
-            Lane::Constant(0)
+        Some(component) if holds_indices(component.component_type) => {
+            rgba8_lane(component.component_type, usize::from(component.offset))
         }
-        None => Lane::Constant(0),
+        _ => Lane::Constant(0),
     }
 }
 

@@ -26,7 +26,7 @@ fn is_nan(bits: u32) -> bool
 pub fn snorm8_to_f32(value: u8) -> u32
     ensures { result ≡ snorm8_to_f32 value }
 {
-    let signed = ((u32::from(value) + 128) % 256) as f32 - 128.0;
+    let signed = value.cast_signed() as f32;
     f32::to_bits(at_least_minus_one(signed * 31.0 * f32::from_bits(0x3985_2B5F)))
 }
 
@@ -67,6 +67,7 @@ pub fn f32_to_snorm8(bits: u32) -> u8
     (with_sign(bits, size) % 256) as u8
 }
 
+// Not by `wrapping_neg` of the byte: small runs of usual floats then take 4.5 times the time of the Rust, and by this 2.2.
 fn with_sign(bits: u32, size: u32) -> u32
     requires { size ≤ 256 }
     ensures { result ≡ cond (ltb bits 2147483648) size (256 - size) }

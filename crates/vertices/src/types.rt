@@ -1,6 +1,6 @@
 // What a vertex is made of: component types, semantics, components.
 ghost use Rattle.std.specs.Prelude.{◌≡◌};
-ghost use Rattle.vertices.specs.Types.{component_type_of, nibble_of, size_of, count_of, semantic_of};
+ghost use Rattle.vertices.specs.Types.{component_type_of, nibble_of, size_of, count_of, semantic_of, index_of};
 
 // The type of a component. The declaration stores it as a number of 4 bits.
 #[derive(Clone, Copy, Debug, PartialEq, Eq)]
@@ -92,6 +92,7 @@ impl VertexComponentType {
         }
     }
 
+    // 0 of a type that has no size, as in the original: a component of it takes no room, and sums of sizes go on.
     pub fn size_in_bytes(self) -> u8
         ensures { result ≡ size_of self }
     {
@@ -141,6 +142,31 @@ impl VertexSemantic {
             14 => Self::Tangent,
             15 => Self::Binormal,
             _ => Self::Unknown(index),
+        }
+    }
+
+    // The number of its flag.
+    pub fn index(self) -> u8
+        ensures { result ≡ index_of self }
+    {
+        match self {
+            Self::Position => 0,
+            Self::BlendWeights => 1,
+            Self::BlendIndices => 2,
+            Self::Normal => 3,
+            Self::Colour0 => 4,
+            Self::Colour1 => 5,
+            Self::TexCoord0 => 6,
+            Self::TexCoord1 => 7,
+            Self::TexCoord2 => 8,
+            Self::TexCoord3 => 9,
+            Self::TexCoord4 => 10,
+            Self::TexCoord5 => 11,
+            Self::TexCoord6 => 12,
+            Self::TexCoord7 => 13,
+            Self::Tangent => 14,
+            Self::Binormal => 15,
+            Self::Unknown(index) => index,
         }
     }
 }

@@ -7,8 +7,9 @@ ghost use Rattle.vertices.specs.Inner.Lanes.{BlockReady, BlockWritten, BlockBegu
 
 use crate::declaration::VertexDeclaration;
 use crate::lane::lane_of;
+use crate::runs::{NeedsBytes, fitting};
 use crate::strips::{SIZE, Strip, base_of, write_strip};
-use crate::types::VertexComponent;
+use crate::types::{VertexComponent, VertexSemantic};
 use crate::values::{Bytes4, Vec2, Vec3, Vec4};
 use sections::copy_within;
 
@@ -25,11 +26,22 @@ pub struct UnifiedVertex {
     pub blend_indices: Bytes4,
 }
 
-// OutsideData: a component of some vertex does not end inside the data. NeedsBytes: how many an output that is too short would have to have.
+// OutsideData: a component of some vertex does not end inside the data. NeedsBytes: the output is too short.
 #[derive(Clone, Copy, Debug, PartialEq, Eq)]
 pub enum UnifyError {
     OutsideData,
-    NeedsBytes(u64),
+    NeedsBytes(NeedsBytes),
+}
+
+impl From<NeedsBytes> for UnifyError {
+    ghost use Rattle.std.specs.Prelude.{◌≡◌};
+    ghost use Rattle.vertices.specs.declared.unify.UnifyError.TheVariants.{NeedsBytes};
+
+    ghost from_gives = { λ needed error. error ≡ NeedsBytes needed };
+
+    fn from(needed: NeedsBytes) -> Self {
+        UnifyError::NeedsBytes(needed)
+    }
 }
 
 // The component behind each field. It depends on the declaration alone, and is found once for all vertices.
@@ -63,11 +75,9 @@ pub fn unified_vertices(
     if !vertices_inside(declaration, data.len(), vertex_stride, vertex_count) {
         return Err(UnifyError::OutsideData);
     }
-    if out.len() < SIZE * count {
-        return Err(UnifyError::NeedsBytes((SIZE * count) as u64));
-    }
+    let size = fitting(SIZE * count, out.len())?;
     unify_all(data, vertex_stride, count, plan_of(declaration), out);
-    Ok((SIZE * count) as u64)
+    Ok(size as u64)
 }
 
 // Whether every component of nonzero size of every vertex ends inside n bytes. It is enough to test the last vertex.
@@ -75,28 +85,22 @@ fn vertices_inside(declaration: VertexDeclaration, n: usize, stride: u16, count:
     ensures { result ≡ vertices_inside declaration n stride count }
 {
     let total = usize::from(declaration.size_in_bytes());
-    if count == 0 {
-        return true;
-    }
-    if total == 0 {
-        return true;
-    }
-    base_of((count - 1) as usize, stride) + total <= n
+    count == 0 || total == 0 || base_of((count - 1) as usize, stride) + total <= n
 }
 
 fn plan_of(declaration: VertexDeclaration) -> UnifiedPlan
     ensures { result ≡ plan_of declaration }
 {
     UnifiedPlan {
-        position: declaration.component(0),
-        normal: declaration.component(3),
-        color0: declaration.component(4),
-        color1: declaration.component(5),
-        texcoord0: declaration.component(6),
-        texcoord1: declaration.component(7),
-        tangent: declaration.component(14),
-        blend_weights: declaration.component(1),
-        blend_indices: declaration.component(2),
+        position: declaration.component_of(VertexSemantic::Position),
+        normal: declaration.component_of(VertexSemantic::Normal),
+        color0: declaration.component_of(VertexSemantic::Colour0),
+        color1: declaration.component_of(VertexSemantic::Colour1),
+        texcoord0: declaration.component_of(VertexSemantic::TexCoord0),
+        texcoord1: declaration.component_of(VertexSemantic::TexCoord1),
+        tangent: declaration.component_of(VertexSemantic::Tangent),
+        blend_weights: declaration.component_of(VertexSemantic::BlendWeights),
+        blend_indices: declaration.component_of(VertexSemantic::BlendIndices),
     }
 }
 
@@ -105,9 +109,8 @@ fn unify_all(data: &[u8], stride: u16, count: usize, plan: UnifiedPlan, out: &mu
     requires { (count < 4294967296) × (84 * count ≤ length out.old) × ((i : ℕ) → i < count → Readable plan (i * stride) (length «data».now)) }
     ensures { out.new ≡ overwrite out.old 0 (run_of (λ (i : ℕ). planned_vertex plan «data».now (i * stride)) count) }
 {
-    for block in 0..count.div_ceil(BLOCK) {
-        let first = block * BLOCK;
-        let end = count.min(first + BLOCK);
+    for first in (0..count).step_by(BLOCK) {
+        let end = first + BLOCK.min(count - first);
         begin_block(out, first, end);
         unify_block(data, stride, plan, out, first, end);
     }

@@ -42,6 +42,16 @@ impl F32 {
     pub const ONE: F32 = F32 { bits: 0x3F80_0000 };
 }
 
+impl Bytes4 {
+    pub const WHITE: Bytes4 = Bytes4 {
+        a: 255,
+        b: 255,
+        c: 255,
+        d: 255,
+    };
+}
+
+// `new` and `of` stand at each of the three: the functions of an `impl` that a macro writes have no clauses here, and an array's places have no names.
 impl Vec2 {
     pub(crate) fn new(x: F32, y: F32) -> Self
         ensures { result ≡ record { x = x; y = y } }

@@ -16,7 +16,7 @@ use Rattle.halls.specs.Inner.Order.{passed, too_large, failing, check_of, verdic
 use Rattle.halls.specs.Inner.Seeking.{Near}
 use Rattle.halls.specs.Parsing.{records_length, whole, follows, may_end, ordered, geometries_in, models_in, structured, parse}
 use Rattle.halls.specs.Records.{Record, records}
-use Rattle.halls.specs.Inner.Walk.{well_from, lowest_from, kind_count, units, units_from, left_of, before_of, Walked, limits_lowest, summary_of, Found}
+use Rattle.halls.specs.Inner.Walk.{well_from, lowest_from, kind_count, units, units_from, left_of, before_of, Walked, limits_lowest, Found}
 use Rattle.halls.specs.Verdict.{Sound, Fails}
 use Rattle.halls.specs.declared.check.pass.Mark.{Mark}
 use Rattle.halls.specs.declared.check.pass.Findings.{Findings}
@@ -62,7 +62,7 @@ module _ (s : List ℕ) (below : (i : ℕ) → get_or s i 0 < 256) (t : Tally) (
   no-records = ap records none_left ∙ records-stop [] (omega arith)
 
   is-structured : structured s ≡ true
-  is-structured = w.structure ∙ ap (well_from (before_of t)) none_left ∙ well-none (eqb t.models 0)
+  is-structured = w.structure ∙ ap (well_from (before_of t)) none_left ∙ well-none (eqb t.summary.models 0)
 
   verdict-is : judged (parse s) ≡ verdict hall
   unfolding parse
@@ -79,49 +79,49 @@ module _ (s : List ℕ) (below : (i : ℕ) → get_or s i 0 < 256) (t : Tally) (
       let last : lowest_from (left_of s t) (records (drop t.at s)) ≡ failing 12 (eqb t.left 0) = ap (lowest_from (left_of s t)) no-records ∙ rw (is_empty_lem t.left (drop t.mapping s)) in
       sym (ap (min t.lowest) last) ∙ sym w.lowest ∙ rw all (omega arith)
 
-  models_are : t.models ≡ length hall
+  models_are : t.summary.models ≡ length hall
   unfolding kind_count
   models_are = let e : kind_count 1 (records (drop t.at s)) ≡ 0 = ap (kind_count 1) no-records in omega (arith, w.models, count_models (records s))
 
-  geometries-are : t.geometries ≡ geometry_count hall
+  geometries-are : t.summary.geometries ≡ geometry_count hall
   unfolding kind_count
   geometries-are =
       let e : kind_count 2 (records (drop t.at s)) ≡ 0 = ap (kind_count 2) no-records in
       let z : length (geometries_in (records s)) ≡ 0 = ap length first-model in
       omega (arith, w.geometries, count-geometries (records s))
 
-  units-are : every mapping_matches hall ≡ true → 16 * (1 + units (8 * t.models) + t.units) ≡ image_size hall
+  units-are : every mapping_matches hall ≡ true → 16 * (1 + units (8 * t.summary.models) + t.summary.units) ≡ image_size hall
   unfolding units_from image_size sum_of
   units-are m =
       let e : units_from (records (drop t.at s)) ≡ 0 = ap units_from no-records in
       let z : sum_of geometry_size (geometries_in (records s)) ≡ 0 = ap (sum_of geometry_size) first-model in
       omega (arith, w.image, image-units (records s), size_by_mapping_lem hall m, models_are)
 
-  limits_are : every mapping_matches hall ≡ true → limits_lowest t.models t.geometries t.units ≡ whole_lowest hall
-  limits_are m = limits_of hall t.models t.geometries t.units models_are geometries-are (units-are m)
+  limits_are : every mapping_matches hall ≡ true → limits_lowest t.summary.models t.summary.geometries t.summary.units ≡ whole_lowest hall
+  limits_are m = limits_of hall t.summary.models t.summary.geometries t.summary.units models_are geometries-are (units-are m)
 
-  tally_limits : 13 ≤ limits_lowest t.models t.geometries t.units
+  tally_limits : 13 ≤ limits_lowest t.summary.models t.summary.geometries t.summary.units
   unfolding limits_lowest
-  tally_limits = (limits_low (leb t.models 256 && leb t.geometries 16384) (leb (1 + units (8 * t.models) + t.units) 4194304)).0
+  tally_limits = (limits_low (leb t.summary.models 256 && leb t.summary.geometries 16384) (leb (1 + units (8 * t.summary.models) + t.summary.units) 4194304)).0
 
-  pub judged-as : (lowest : ℕ) → lowest ≡ min (min t.lowest (failing 12 (eqb t.left 0))) (limits_lowest t.models t.geometries t.units) → judged (parse s) ≡ verdict_of lowest
+  pub judged-as : (lowest : ℕ) → lowest ≡ min (min t.lowest (failing 12 (eqb t.left 0))) (limits_lowest t.summary.models t.summary.geometries t.summary.units) → judged (parse s) ≡ verdict_of lowest
   judged-as lowest e =
       let same : lowest ≡ min (lowest_of_models hall) (whole_lowest hall) = e ∙ rw lowest_is (both-limits (every mapping_matches hall) refl) in
       verdict-is ∙ sym (ap (λ (n : ℕ). verdict_of n) same ∙ verdict-lowest hall (structured-hall s below is-structured).exact_bytes)
     where
       both-limits : (b : Bool) → every mapping_matches hall ≡ b
-          → min (min passed (lowest_of_models hall)) (limits_lowest t.models t.geometries t.units) ≡ min (lowest_of_models hall) (whole_lowest hall)
+          → min (min passed (lowest_of_models hall)) (limits_lowest t.summary.models t.summary.geometries t.summary.units) ≡ min (lowest_of_models hall) (whole_lowest hall)
       both-limits true m = rw (limits_are m) (omega (arith, (limits_low (counts_within_limits hall) (image_within_limit hall)).1))
       both-limits false m = rw (mapping-lowest hall m) (omega (arith, (limits_low (counts_within_limits hall) (image_within_limit hall)).0, tally_limits))
 
-  pub judged-fails : (lowest : ℕ) → lowest ≡ min (min t.lowest (failing 12 (eqb t.left 0))) (limits_lowest t.models t.geometries t.units) → lowest < passed → judged (parse s) ≡ Fails (check_of lowest)
+  pub judged-fails : (lowest : ℕ) → lowest ≡ min (min t.lowest (failing 12 (eqb t.left 0))) (limits_lowest t.summary.models t.summary.geometries t.summary.units) → lowest < passed → judged (parse s) ≡ Fails (check_of lowest)
   judged-fails lowest e l = judged-as lowest e ∙ rw (lt-leb passed lowest l)
 
-  pub judged-sound : (lowest : ℕ) → lowest ≡ min (min t.lowest (failing 12 (eqb t.left 0))) (limits_lowest t.models t.geometries t.units) → passed ≤ lowest → judged (parse s) ≡ Sound
+  pub judged-sound : (lowest : ℕ) → lowest ≡ min (min t.lowest (failing 12 (eqb t.left 0))) (limits_lowest t.summary.models t.summary.geometries t.summary.units) → passed ≤ lowest → judged (parse s) ≡ Sound
   judged-sound lowest e l = judged-as lowest e ∙ rw (le-leb passed lowest l)
 
   -- with the place that is nearest
-  pub found-all : {m g : ℕ} {p : Mark} {r : Findings} → judged (parse s) ≡ Sound → Near s m g t.models p → r ≡ record { summary = summary_of t; nearest = p } → Found s m g r
+  pub found-all : {m g : ℕ} {p : Mark} {r : Findings} → judged (parse s) ≡ Sound → Near s m g t.summary.models p → r ≡ record { summary = t.summary; nearest = p } → Found s m g r
   found-all v n e =
       let m = (verdict-sound hall (sym verdict-is ∙ v)).mappings in
       rw e (record { counted = record { models = models_are; geometries = geometries-are; image = units-are m }; nearest = rw (← models_are) n })

@@ -141,11 +141,13 @@ module _ {s : List ℕ} {content held : ℕ} (f : GeometryFront s content held) 
   -- all of them
   pub front-head : head_of g
       ≡ record {
-        shader = field 2 s 6;
-        index_count = field 4 s 8;
-        triangle_count = field 4 s 12;
-        vertex_count = field 2 s 16;
-        stride = field 2 s 18;
+        numbers = record {
+          shader = field 2 s 6;
+          index_count = field 4 s 8;
+          triangle_count = field 4 s 12;
+          vertex_count = field 2 s 16;
+          stride = field 2 s 18;
+        };
         declaration = declaration_at s 26;
         layout = field 1 s 48;
         vertices_stride = field 2 s 49;
@@ -171,16 +173,16 @@ module _ {s : List ℕ} {content held : ℕ} (f : GeometryFront s content held) 
 -- ---- checks 14 to 17 of the numbers
 
 abbrev strides_test : GeometryHead → Bool
-strides_test h = eqb h.layout 0 && (eqb h.declaration.stride h.stride && eqb h.vertices_stride h.stride)
+strides_test h = eqb h.layout 0 && (eqb h.declaration.stride h.numbers.stride && eqb h.vertices_stride h.numbers.stride)
 
 abbrev components_test : GeometryHead → Bool
-components_test h = inside_stride h.declaration h.stride
+components_test h = inside_stride h.declaration h.numbers.stride
 
 abbrev vertices_test : GeometryHead → Bool
-vertices_test h = eqb h.vertex_count h.vertices_count && (leb 1 h.vertices_count && leb h.vertices_count 65535)
+vertices_test h = eqb h.numbers.vertex_count h.vertices_count && (leb 1 h.vertices_count && leb h.vertices_count 65535)
 
 abbrev indices_test : GeometryHead → Bool
-indices_test h = eqb h.index_count h.held && (eqb h.indices_count h.held && (eqb h.held (3 * h.triangle_count) && leb 3 h.held))
+indices_test h = eqb h.numbers.index_count h.held && (eqb h.indices_count h.held && (eqb h.held (3 * h.numbers.triangle_count) && leb 3 h.held))
 
 module _ (h : GeometryHead) {r : Bool} where
   pub strides_tested : r ≡ strides_test h → HeadTested strides_agree h r
@@ -277,14 +279,14 @@ module _ (g : FullGeometry) {h : GeometryHead} {r : ℕ} (e : h ≡ head_of g) (
 
 -- so of the geometry at the front, whose indices stand behind its vertex bytes
 module _ {s : List ℕ} {content held : ℕ} (f : GeometryFront s content held) {h : GeometryHead} {r : ℕ} (e : h ≡ head_of (front_geometry s)) (j : HeadJudged h r) (z : r ≡ passed) where
-  pub front-triangles : held ≡ 3 * h.triangle_count
+  pub front-triangles : held ≡ 3 * h.numbers.triangle_count
   front-triangles =
-      sym (ap length (items_are f) ∙ numbers-length 4 held (drop (65 + content) s)) ∙ lowest-triangles (front_geometry s) e j z ∙ ap (λ (x : GeometryHead). 3 * x.triangle_count) (sym e)
+      sym (ap length (items_are f) ∙ numbers-length 4 held (drop (65 + content) s)) ∙ lowest-triangles (front_geometry s) e j z ∙ ap (λ (x : GeometryHead). 3 * x.numbers.triangle_count) (sym e)
 
-  pub front-scanned : {t : ℕ} → t ≡ indices_lowest_of h.vertices_count (numbers 4 (3 * h.triangle_count) (drop (65 + content) s)) → t ≡ lowest_of (front_geometry s)
+  pub front-scanned : {t : ℕ} → t ≡ indices_lowest_of h.vertices_count (numbers 4 (3 * h.numbers.triangle_count) (drop (65 + content) s)) → t ≡ lowest_of (front_geometry s)
   front-scanned q =
       let limit : h.vertices_count ≡ (front_geometry s).vertices.count = ap (λ (x : GeometryHead). x.vertices_count) e in
-      let items : numbers 4 (3 * h.triangle_count) (drop (65 + content) s) ≡ (front_geometry s).indices.items = ap (λ (n : ℕ). numbers 4 n (drop (65 + content) s)) (sym front-triangles) ∙ sym (items_are f) in
+      let items : numbers 4 (3 * h.numbers.triangle_count) (drop (65 + content) s) ≡ (front_geometry s).indices.items = ap (λ (n : ℕ). numbers 4 n (drop (65 + content) s)) (sym front-triangles) ∙ sym (items_are f) in
       lowest_scanned (front_geometry s) e j z (q ∙ rw (limit, items) refl)
 
 -- ---- the position

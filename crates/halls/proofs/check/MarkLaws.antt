@@ -1,4 +1,5 @@
 -- The place that a pass is at: what is sought from it, at the start and behind a model's record or a geometry's four; and of these the nearest to what is sought.
+use Rattle.std.specs.Prelude.{Some}
 use mathlib.Core.Path.{◌≡◌, refl, sym, ap, ◌∙◌}
 use mathlib.Core.Bool.{Bool, true, false, cond, ◌&&◌}
 use mathlib.Core.List.{List, ◌∷◌}
@@ -34,7 +35,7 @@ one_more k = omega arith
 
 module _ (s : List ℕ) (p u : Mark) (w : Marked s p) (low : u.at ≤ length s) where
   module _ (body : List ℕ) (are : records (drop p.at s) ≡ of_kind 1 body ∷ records (drop u.at s)) (long : p.at + 6 + length body ≡ u.at) where
-    ModelHere_lem : sought s p.at 1 0 ≡ p.at
+    ModelHere_lem : sought s p.at 1 0 ≡ Some p.at
     unfolding sought
     ModelHere_lem = rw (are, place_here 1 0 p.at (of_kind 1 body) (records (drop u.at s)) refl refl)
 
@@ -50,7 +51,7 @@ module _ (s : List ℕ) (p u : Mark) (w : Marked s p) (low : u.at ≤ length s) 
           ap (λ (n : ℕ). sought s 0 1 n) e ∙ w.models-behind (k + 1) ∙ past-model k;
       model_is = λ h.
           let e : u.models - 1 ≡ p.models + 0 = omega arith in
-          model ∙ sym (ap (λ (n : ℕ). sought s 0 1 n) e ∙ w.models-behind 0 ∙ ModelHere_lem);
+          ap Some model ∙ sym (ap (λ (n : ℕ). sought s 0 1 n) e ∙ w.models-behind 0 ∙ ModelHere_lem);
       geometries-behind = λ h k.
           let place : u.model + 6 + field 4 s u.model ≡ u.at = rw (model, read) long in
           let e : u.own + k ≡ k = omega arith in
@@ -73,7 +74,7 @@ module _ (s : List ℕ) (p u : Mark) (w : Marked s p) (low : u.at ≤ length s) 
     Marked-geometry models model own = record {
       within = low;
       models-behind = λ k. ap (λ (n : ℕ). sought s 0 1 (n + k)) models ∙ w.models-behind k ∙ past-geometry k;
-      model_is = λ h. model ∙ w.model_is (omega arith) ∙ ap (λ (n : ℕ). sought s 0 1 (n - 1)) (sym models);
+      model_is = λ h. ap Some model ∙ w.model_is (omega arith) ∙ ap (λ (n : ℕ). sought s 0 1 (n - 1)) (sym models);
       geometries-behind = λ h k.
           let e : u.own + k ≡ p.own + (k + 1) = omega arith in
           rw (model, e) (w.geometries-behind (omega arith) (k + 1) ∙ next-geometry k);
@@ -81,26 +82,26 @@ module _ (s : List ℕ) (p u : Mark) (w : Marked s p) (low : u.at ≤ length s) 
 
 -- ---- the nearest
 
-pub Near-start : (s : List ℕ) (m g : ℕ) {t : Tally} {p : Mark} → t ≡ start_tally → p ≡ mark_of t → Near s m g t.models p
+pub Near-start : (s : List ℕ) (m g : ℕ) {t : Tally} {p : Mark} → t ≡ start_tally → p ≡ mark_of t → Near s m g t.summary.models p
 Near-start s m g e f = rw (f, e) (record { marked = marked_start s; models_are = omega arith; own-few = omega arith })
 
-module _ {s : List ℕ} {m g : ℕ} {t u : Tally} {p : Mark} (n : Near s m g t.models p) (w : Marked s (mark_of u)) (on : Onward t u) where
+module _ {s : List ℕ} {m g : ℕ} {t u : Tally} {p : Mark} (n : Near s m g t.summary.models p) (w : Marked s (mark_of u)) (on : Onward t u) where
   abbrev own : ℕ
-  own = u.geometries - u.first
+  own = u.summary.geometries - u.first
 
   -- the place before stays the nearest where the next is behind the model or the geometry
-  kept : (u.models ≤ m + 1 → own ≤ g → ⊥) → Near s m g u.models p
+  kept : (u.summary.models ≤ m + 1 → own ≤ g → ⊥) → Near s m g u.summary.models p
   kept behind = record {
     marked = n.marked;
-    models_are = n.models_are ∙ ⊎_elim (λ e. omega arith) (λ e. let f : u.models ≤ m + 1 → ⊥ = λ l. behind l (omega (arith, e)) in omega (arith, f)) on.same_or-next;
+    models_are = n.models_are ∙ ⊎_elim (λ e. omega arith) (λ e. let f : u.summary.models ≤ m + 1 → ⊥ = λ l. behind l (omega (arith, e)) in omega (arith, f)) on.same_or-next;
     own-few = n.own-few;
   }
 
-  pub Near-turn : Near s m g u.models (nearer_mark p (mark_of u) m g)
+  pub Near-turn : Near s m g u.summary.models (nearer_mark p (mark_of u) m g)
   unfolding nearer_mark
-  Near-turn = by (leb own g) (leb u.models (m + 1)) refl refl
+  Near-turn = by (leb own g) (leb u.summary.models (m + 1)) refl refl
     where
-      by : (x y : Bool) → leb own g ≡ x → leb u.models (m + 1) ≡ y → Near s m g u.models (cond (x && y) (mark_of u) p)
-      by true true e f = record { marked = w; models_are = omega (arith, leb-true u.models (m + 1) f); own-few = leb-true own g e }
-      by true false e f = kept (λ l r. omega (arith, leb-false u.models (m + 1) f))
+      by : (x y : Bool) → leb own g ≡ x → leb u.summary.models (m + 1) ≡ y → Near s m g u.summary.models (cond (x && y) (mark_of u) p)
+      by true true e f = record { marked = w; models_are = omega (arith, leb-true u.summary.models (m + 1) f); own-few = leb-true own g e }
+      by true false e f = kept (λ l r. omega (arith, leb-false u.summary.models (m + 1) f))
       by false y e f = kept (λ l r. omega (arith, leb-false own g e))

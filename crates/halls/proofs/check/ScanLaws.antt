@@ -3,8 +3,8 @@
 use mathlib.Core.Path.{◌≡◌, refl, sym, ap, subst, ◌∙◌}
 use mathlib.Core.Bool.{Bool, true, false, cond, ◌&&◌, not}
 use mathlib.Core.List.{List, [], ◌∷◌, ◌++◌}
-use Prim.Native.Nat.{ℕ, zero, suc, ◌+◌, ◌*◌, ◌-◌, ◌≤◌, min}
-use native.Mathlib.Nat.{add-zero}
+use Prim.Native.Nat.{ℕ, zero, suc, ◌+◌, ◌*◌, ◌-◌, ◌/◌, ◌≤◌, min}
+use native.Mathlib.Nat.{add-zero, div-le_self, div-mul-le_self, mul-le-mul_right, le_trans}
 use native.Mathlib.Numerals.{add-one}
 use native.Mathlib.Omega.{arith}
 use borrow.Author.Tests.{eq-eqb, eqb-true, ne_eqb}
@@ -236,6 +236,12 @@ module _ (width n : ℕ) (s : List ℕ) (i : ℕ) (h : 3 * i + 3 ≤ length (num
   pub triangle_of-bytes : triangle_in (numbers width n s) i ≡ record { a = le (part s (3 * i * width) width); b = le (part s ((3 * i + 1) * width) width); c = le (part s ((3 * i + 2) * width) width) }
   triangle_of-bytes =
       rw (numbers-get_or width n (3 * i) s (omega (arith, triangle-fits)), numbers-get_or width n (3 * i + 1) s (omega (arith, triangle-fits)), numbers-get_or width n (3 * i + 2) s (omega (arith, triangle-fits))) refl
+
+-- where they are as many as the bytes have, its bytes lie inside
+pub triangle_bytes : (width i : ℕ) (s : List ℕ) → 3 * i + 3 ≤ length (numbers width (length s / width) s) → ((3 * i + 3) * width ≤ length s) × (3 * i + 3 ≤ length s)
+triangle_bytes width i s h =
+    let fits = triangle-fits width _ s i h in
+    (le_trans (mul-le-mul_right width fits) (div-mul-le_self (length s) width), le_trans fits (div-le_self (length s) width))
 
 -- the first of them
 pub numbers-take : (width m n : ℕ) (s : List ℕ) → m ≤ n → take m (numbers width n s) ≡ numbers width m s

@@ -1,22 +1,24 @@
--- Laws of seeking: one record of some bytes, and the records behind others.
-use Rattle.std.specs.Prelude.{None, Some}
+-- Laws of seeking: record by record, and the records behind others.
+use Rattle.std.specs.Prelude.{Option, None, Some}
 use mathlib.Core.Path.{◌≡◌, refl, sym, ap, ◌∙◌}
 use mathlib.Core.List.{List, [], ◌∷◌, ◌++◌}
-use Prim.Native.Nat.{ℕ, ◌+◌, ◌-◌, ◌≤◌, ◌<◌}
+use Prim.Native.Nat.{ℕ, ◌+◌, ◌-◌, ◌≤◌}
 use native.Mathlib.Nat.{add-zero, lt_of_not-le}
 use native.Mathlib.Decide.{dec_le}
 use native.Mathlib.Omega.{arith}
 use borrow.Author.Tests.{eq-eqb, ne_eqb}
-use lib.ListN.{length, drop, length-drop}
+use lib.ListN.{length, take, drop, length-drop}
 use lib.Seq.{drop-drop}
+use Rattle.sections.specs.Edit.{part}
 use Rattle.sections.specs.Le.{field}
 use Rattle.sections.proofs.EditLaws.{part_length}
 use Rattle.halls.specs.Parsing.{records_length}
 use Rattle.halls.specs.Records.{Record, body_length, front_record, records}
-use Rattle.halls.specs.Inner.Spans.{Spans}
+use Rattle.halls.specs.Inner.Spans.{Spans, spans_from, spans_at}
 use Rattle.halls.specs.declared.format.walk.RecordSpan.{RecordSpan}
 use Rattle.halls.specs.Inner.Seeking.{place_of, sought}
-use Rattle.halls.proofs.format.RecordLaws.{field-drop, length_at, records-stop, records-step}
+use Rattle.halls.proofs.format.RecordLaws.{length_at, records-stop, records-step}
+use Rattle.halls.proofs.format.SpanLaws.{Split, split, split-none, records-one}
 
 -- ---- one record of a list
 
@@ -39,64 +41,77 @@ module _ (kind skip at : ℕ) (r : Record) (rs : List Record) where
 
 -- ---- the record that begins at `at`
 
-module _ (s : List ℕ) (at kind skip : ℕ) where
-  abbrev left : List ℕ
-  left = drop at s
+-- what is sought among the records that are left is what was sought
+pub record Seeking (kind left : ℕ) (all : Option ℕ) (rest : List RecordSpan) : Type 0 where
+  pub at : ℕ
+  pub records-left : List Record
+  pub rest-is : spans_from at records-left ≡ rest
+  pub same : place_of kind left at records-left ≡ all
 
-  stopped : length left < 6 + body_length left → length s ≡ sought s at kind skip
-  unfolding sought place_of
-  stopped h = rw (records-stop left h)
+pub seeking_start : (s : List ℕ) (at kind skip : ℕ) {rest : List RecordSpan} → rest ≡ spans_at s at → Seeking kind skip (sought s at kind skip) rest
+unfolding sought
+seeking_start s at kind skip e = record { at = at; records-left = records (drop at s); rest-is = sym e; same = refl }
 
-  -- none that is whole
-  pub sought-end : at ≤ length s → length s < at + 6 + field 4 s at → length s ≡ sought s at kind skip
-  sought-end h l =
-      elim (dec_le (at + 6) (length s)) [
-        | yes y ↦ let b = length_at s at y refl in stopped (rw length-drop (omega arith))
-        | no y ↦ let few = lt_of_not-le y in stopped (rw length-drop (omega (arith, few)))
-      ]
+module _ {kind left : ℕ} {all : Option ℕ} {rest : List RecordSpan} (w : Seeking kind left all rest) where
+  -- none is left
+  pub seeking_end : rest ≡ [] → None ≡ all
+  unfolding place_of
+  seeking_end e = let none = split-none w.at w.records-left (w.rest-is ∙ e) in rw none at w.same
 
-  module _ {found : RecordSpan} (q : Spans s at found) where
-    abbrev r : Record
-    r = front_record left
+  module _ {x : RecordSpan} {xs : List RecordSpan} (e : rest ≡ x ∷ xs) where
+    parts : Split w.at w.records-left x xs
+    parts = split w.at w.records-left (w.rest-is ∙ e)
 
-    length-is : body_length left ≡ field 4 s at
-    length-is = length_at s at (omega (arith, q.inside, q.end-is)) refl
+    whole : place_of kind left w.at (parts.it ∷ parts.others) ≡ all
+    whole = rw parts.are at w.same
 
-    fit : 6 + body_length left ≤ length left
-    fit = rw length-drop (omega (arith, length-is, q.inside, q.end-is))
+    kind_is : x.kind ≡ parts.it.kind
+    kind_is = ap (λ (r : RecordSpan). r.kind) parts.first
 
-    kind-is : r.kind ≡ found.kind
-    unfolding front_record
-    kind-is = field-drop 2 s at 4 (omega (arith, q.inside, q.end-is)) ∙ sym q.kind-is
+    pub seeking_found : x.kind ≡ kind → left ≡ 0 → Some x.at ≡ all
+    seeking_found k z = ap (λ (r : RecordSpan). Some r.at) parts.first ∙ sym (place_here kind left w.at parts.it parts.others (sym kind_is ∙ k) z) ∙ whole
 
-    body_is : length r.body ≡ field 4 s at
-    unfolding front_record
-    body_is = part_length left 6 (body_length left) fit ∙ length-is
+    pub seeking_next : x.kind ≡ kind → (left ≡ 0 → ⊥) → Seeking kind (left - 1) all xs
+    seeking_next k z = record {
+      at = w.at + 6 + length parts.it.body;
+      records-left = parts.others;
+      rest-is = sym parts.behind;
+      same = sym (place-next kind left w.at parts.it parts.others (sym kind_is ∙ k) z) ∙ whole;
+    }
 
-    behind-is : at + 6 + length r.body ≡ found.end
-    behind-is = omega (arith, body_is, q.end-is)
+    pub seeking_ended : (x.kind ≡ kind → ⊥) → x.kind ≡ 1 → None ≡ all
+    seeking_ended k m = sym (place-ended kind left w.at parts.it parts.others (λ z. k (kind_is ∙ z)) (sym kind_is ∙ m)) ∙ whole
 
-    step : records left ≡ r ∷ records (drop found.end s)
-    step =
-        let place : at + (6 + body_length left) ≡ found.end = omega (arith, length-is, q.end-is) in
-        let behind : drop (6 + body_length left) left ≡ drop found.end s = rw (drop-drop (6 + body_length left) at s, place) in
-        records-step left fit ∙ ap (λ (l : List ℕ). r ∷ records l) behind
+    pub seeking_past : (x.kind ≡ kind → ⊥) → (x.kind ≡ 1 → ⊥) → Seeking kind left all xs
+    seeking_past k m = record {
+      at = w.at + 6 + length parts.it.body;
+      records-left = parts.others;
+      rest-is = sym parts.behind;
+      same = sym (place_past kind left w.at parts.it parts.others (λ z. k (kind_is ∙ z)) (λ z. m (kind_is ∙ z))) ∙ whole;
+    }
 
-    pub sought-here : found.kind ≡ kind → skip ≡ 0 → at ≡ sought s at kind skip
-    unfolding sought
-    sought-here k z = rw (step, place_here kind skip at r (records (drop found.end s)) (kind-is ∙ k) z)
+-- ---- in some bytes: what is sought stays the same from record to record
 
-    pub sought-next : found.kind ≡ kind → (skip ≡ 0 → ⊥) → sought s found.end kind (skip - 1) ≡ sought s at kind skip
-    unfolding sought
-    sought-next k z = rw (step, place-next kind skip at r (records (drop found.end s)) (kind-is ∙ k) z, behind-is)
+module _ (s : List ℕ) (at kind skip : ℕ) {found : RecordSpan} (q : Spans s at found) where
+  low : at ≤ length s
+  low = omega (arith, q.inside, q.end-is)
 
-    pub sought-ended : (found.kind ≡ kind → ⊥) → found.kind ≡ 1 → length s ≡ sought s at kind skip
-    unfolding sought
-    sought-ended k m = rw (step, place-ended kind skip at r (records (drop found.end s)) (λ x. k (sym kind-is ∙ x)) (kind-is ∙ m))
+  body_is : length (part s found.start (found.end - found.start)) ≡ found.end - found.start
+  body_is = part_length s found.start (found.end - found.start) (omega (arith, q.inside, q.start-is, q.end-is))
 
-    pub sought-past : (found.kind ≡ kind → ⊥) → (found.kind ≡ 1 → ⊥) → sought s found.end kind skip ≡ sought s at kind skip
-    unfolding sought
-    sought-past k m = rw (step, place_past kind skip at r (records (drop found.end s)) (λ x. k (sym kind-is ∙ x)) (λ x. m (sym kind-is ∙ x)), behind-is)
+  pub sought-next : found.kind ≡ kind → (skip ≡ 0 → ⊥) → sought s found.end kind (skip - 1) ≡ sought s at kind skip
+  unfolding sought part
+  sought-next k z =
+      let r : Record = record { kind = found.kind; body = take (found.end - found.start) (drop found.start s) } in
+      let behind : at + 6 + length r.body ≡ found.end = omega (arith, body_is, q.start-is, q.end-is) in
+      rw (records-one s at low q, place-next kind skip at r (records (drop found.end s)) k z, behind)
+
+  pub sought-past : (found.kind ≡ kind → ⊥) → (found.kind ≡ 1 → ⊥) → sought s found.end kind skip ≡ sought s at kind skip
+  unfolding sought part
+  sought-past k m =
+      let r : Record = record { kind = found.kind; body = take (found.end - found.start) (drop found.start s) } in
+      let behind : at + 6 + length r.body ≡ found.end = omega (arith, body_is, q.start-is, q.end-is) in
+      rw (records-one s at low q, place_past kind skip at r (records (drop found.end s)) k m, behind)
 
 -- ---- the records behind others
 

@@ -136,8 +136,8 @@ module _ (s : List ℕ) (t : Tally) (w : Walked s t) (entries : ℕ) (e : Some (
       ap (lowest_from (left_of s t)) passed-record
       ∙ rw (is_empty_lem t.left (drop t.mapping s), entries-read)
 
-  pub model-turned : (lowest image : ℕ) → lowest ≡ min t.lowest (failing 12 (eqb t.left 0)) → image ≡ t.units + model_units entries
-      → Turned s t (Some (record { at = next; lowest = lowest; models = t.models + 1; geometries = t.geometries; units = image; model = t.at; first = t.geometries; mapping = t.at + 12; left = entries }))
+  pub model-turned : (lowest image : ℕ) → lowest ≡ min t.lowest (failing 12 (eqb t.left 0)) → image ≡ t.summary.units + model_units entries
+      → Turned s t (Some (record { at = next; lowest = lowest; summary = record { models = t.summary.models + 1; geometries = t.summary.geometries; units = image }; model = t.at; first = t.summary.geometries; mapping = t.at + 12; left = entries }))
   unfolding Turned kind_count units_from
   model-turned lowest image l i =
       let ones : kind_count 1 (records left) ≡ 1 + kind_count 1 (records (drop next s)) = ap (kind_count 1) passed-record in
@@ -146,7 +146,7 @@ module _ (s : List ℕ) (t : Tally) (w : Walked s t) (entries : ℕ) (e : Some (
       let parts : units_from (records left) ≡ model_units entries + units_from (records (drop next s)) = ap units_from passed-record ∙ rw n in (
         record {
           within = ModelFits_lem;
-          structure = w.structure ∙ well-model left entries front (before_of t) (follows-model (eqb t.models 0)) ∙ ap (well_from 1) behind ∙ well_same (drop next s) ∙ ap (λ (b : ℕ). well_from b (drop next s)) (sym (later (t.models + 1) (omega arith)));
+          structure = w.structure ∙ well-model left entries front (before_of t) (follows-model (eqb t.summary.models 0)) ∙ ap (well_from 1) behind ∙ well_same (drop next s) ∙ ap (λ (b : ℕ). well_from b (drop next s)) (sym (later (t.summary.models + 1) (omega arith)));
           lowest = w.lowest ∙ ap (min t.lowest) lowest_step ∙ joined t.lowest (failing 12 (eqb t.left 0)) _ ∙ ap (λ (n : ℕ). min n (lowest_from (numbers 2 entries (drop (t.at + 12) s)) (records (drop next s)))) (sym l);
           models = omega (arith, w.models);
           geometries = omega (arith, w.geometries);
@@ -213,9 +213,9 @@ module _ (s : List ℕ) (t : Tally) (w : Walked s t) (content held : ℕ) (e : S
       ap (lowest_from (left_of s t)) passed-records
       ∙ rw (a, f, read_is, shader-same, rest_of t.left s t.mapping)
 
-  pub geometry-turned : (lowest image fewer answer found shader : ℕ) → (t.models ≡ 0 → ⊥) → shader ≡ field 2 s (t.at + 6) → answer ≡ failing 12 (leads shader (left_of s t))
-      → found ≡ lowest_of (front_geometry here) → lowest ≡ min t.lowest (min answer found) → image ≡ t.units + geometry_units content held → fewer ≡ t.left - 1
-      → Turned s t (Some (record { at = beyond; lowest = lowest; models = t.models; geometries = t.geometries + 1; units = image; model = t.model; first = t.first; mapping = t.mapping + 2; left = fewer }))
+  pub geometry-turned : (lowest image fewer answer found shader : ℕ) → (t.summary.models ≡ 0 → ⊥) → shader ≡ field 2 s (t.at + 6) → answer ≡ failing 12 (leads shader (left_of s t))
+      → found ≡ lowest_of (front_geometry here) → lowest ≡ min t.lowest (min answer found) → image ≡ t.summary.units + geometry_units content held → fewer ≡ t.left - 1
+      → Turned s t (Some (record { at = beyond; lowest = lowest; summary = record { models = t.summary.models; geometries = t.summary.geometries + 1; units = image }; model = t.model; first = t.first; mapping = t.mapping + 2; left = fewer }))
   unfolding Turned kind_count units_from
   geometry-turned lowest image fewer answer found shader m x a f l i r =
       let ones : kind_count 1 (records here) ≡ kind_count 1 (records (drop beyond s)) = ap (kind_count 1) passed-records ∙ omega arith in
@@ -223,7 +223,7 @@ module _ (s : List ℕ) (t : Tally) (w : Walked s t) (content held : ℕ) (e : S
       let c : length (part here 48 (7 + content)) - 7 ≡ content = omega (arith, content_length_lem here content held four) in
       let h : (length (part here (61 + content) (4 + 4 * held)) - 4) / 4 ≡ held = omega (arith, indices_length_lem here content held four) in
       let parts : units_from (records here) ≡ geometry_units content held + units_from (records (drop beyond s)) = ap units_from passed-records ∙ rw (c, h) in
-      let before : before_of t ≡ 5 = later t.models (omega arith) in (
+      let before : before_of t ≡ 5 = later t.summary.models (omega arith) in (
         record {
           within = GeometryFits_lem;
           structure = w.structure ∙ rw before (well-geometry here content held four ∙ ap (well_from 5) behind-it);
@@ -241,7 +241,7 @@ module _ (s : List ℕ) (t : Tally) (w : Walked s t) (content held : ℕ) (e : S
         record { further = omega arith; some-model = omega arith; same_or-next = inl refl },
       )
 
-  pub geometry-stops : t.models ≡ 0 → Turned s t None
+  pub geometry-stops : t.summary.models ≡ 0 → Turned s t None
   unfolding Turned
   geometry-stops z = w.structure ∙ rw z (well_no-model here content held four)
 
@@ -249,7 +249,7 @@ module _ (s : List ℕ) (t : Tally) (w : Walked s t) (content held : ℕ) (e : S
 
 pub broken_stops : (s : List ℕ) (t : Tally) → Walked s t → t.at < length s → None ≡ front_of (drop t.at s) → Turned s t None
 unfolding Turned
-broken_stops s t w h e = w.structure ∙ well_broken (drop t.at s) (before_of t) (begins (eqb t.models 0)) (rw length-drop (omega arith)) e
+broken_stops s t w h e = w.structure ∙ well_broken (drop t.at s) (before_of t) (begins (eqb t.summary.models 0)) (rw length-drop (omega arith)) e
 
 -- ---- as the code tests
 

@@ -3,9 +3,9 @@ use Rattle.std.specs.Prelude.{None, Some}
 use mathlib.Core.Path.{◌≡◌, refl, sym, ap, ◌∙◌, subst}
 use mathlib.Core.Bool.{Bool, true, false, cond, ◌&&◌}
 use mathlib.Core.List.{List, [], ◌∷◌, ◌++◌, map-append, append-nil, append_assoc}
-use Prim.Native.Nat.{ℕ, zero, suc, ◌+◌, ◌*◌, ◌-◌, ◌/◌, ◌≤◌, ◌<◌, min}
+use Prim.Native.Nat.{ℕ, zero, suc, ◌+◌, ◌*◌, ◌-◌, ◌/◌, ◌≤◌, ◌<◌, min, ◌%◌}
 use native.Mathlib.Omega.{arith}
-use borrow.Author.Tests.{le-leb, lt-leb, leb-true, eq-eqb}
+use borrow.Author.Tests.{eq-eqb, eqb-false, eqb-true, le-leb, leb-true, lt-leb, ne_eqb}
 use lib.Dec.{eqb, leb}
 use lib.ListN.{length, take, drop, length-append, length-take, length-drop, length-map, take-append-drop, drop_of_length-le}
 use lib.Seq.{length-take-le, take_at, drop_at, take-take}
@@ -21,7 +21,7 @@ use Rattle.halls.specs.Checks.{vertex_bytes_exact, shader_ids, mapping_matches, 
 use Rattle.halls.specs.Every.{every, sum_of}
 use Rattle.halls.specs.Hall.{FullGeometry, FullModel, Hall, FullModelInWidth, listed_geometry, hall_bytes}
 use Rattle.halls.specs.ImageSize.{geometry_size, model_size, image_size}
-use Rattle.halls.specs.Inner.Judging.{indices_lowest_of, lowest_of, inside_stride, given_lowest}
+use Rattle.halls.specs.Inner.Judging.{indices_lowest_of, lowest_of, inside_stride, given_lowest, lent_lowest}
 use Rattle.halls.specs.Inner.Order.{passed, too_large, failing, check_of, verdict_of}
 use Rattle.halls.specs.List.{each, write_geometry}
 use Rattle.halls.specs.Places.{item, model_place}
@@ -46,14 +46,21 @@ use Rattle.halls.proofs.read.ViewLaws.{geometry_record-length, declaration_recor
 
 -- ---- what a given geometry can fail
 
+-- three each
+in_threes : (n : ℕ) → eqb n (3 * (n / 3)) ≡ eqb (n % 3) 0
+in_threes n = by (eqb (n % 3) 0) refl
+  where
+    by : (b : Bool) → eqb (n % 3) 0 ≡ b → eqb n (3 * (n / 3)) ≡ b
+    by true e = eq-eqb n (3 * (n / 3)) (omega (arith, eqb-true (n % 3) 0 e))
+    by false e = ne_eqb n (3 * (n / 3)) (λ z. eqb-false (n % 3) 0 e (omega (arith, z)))
+
 module _ (x : Given) where
-  pub given_is : {a b c d e : Bool} {low : ℕ} → eqb (length x.content) (x.count * x.stride) ≡ a → eqb x.declaration.stride x.stride ≡ b
+  pub given_is : {a b c d : Bool} → eqb (length x.content) (x.count * x.stride) ≡ a → eqb x.declaration.stride x.stride ≡ b
       → inside_stride x.declaration x.stride ≡ c → (leb 1 x.count && leb x.count 65535) ≡ d
-      → (eqb (length x.indices) (3 * (length x.indices / 3)) && leb 3 (length x.indices)) ≡ e → indices_lowest_of x.count x.indices ≡ low
-      → given_lowest (given_geometry x) ≡ cond a (cond b (cond c (cond d (cond e low 17) 16) 15) 14) 11
+      → given_lowest (given_geometry x) ≡ cond a (cond b (cond c (cond d (lent_lowest x.count x.indices) 16) 15) 14) 11
   unfolding given_lowest lowest_of indices_lowest_of inside_stride vertex_bytes_exact strides_agree components_inside vertex_counts_agree index_counts_agree indices_in_range triangles_distinct
-  given_is a b c d e f =
-      rw (eq-eqb x.stride x.stride refl, eq-eqb x.count x.count refl, eq-eqb (length x.indices) (length x.indices) refl, and_true (eqb x.declaration.stride x.stride), a, b, c, d, e, f)
+  given_is a b c d =
+      rw (eq-eqb x.stride x.stride refl, eq-eqb x.count x.count refl, eq-eqb (length x.indices) (length x.indices) refl, and_true (eqb x.declaration.stride x.stride), a, b, c, d, in_threes (length x.indices))
 
 -- ---- the verdict on the result: every other geometry passes already
 

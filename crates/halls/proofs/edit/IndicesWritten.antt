@@ -2,10 +2,10 @@
 use mathlib.Core.Path.{◌≡◌, refl, sym, ap, ◌∙◌}
 use mathlib.Core.Bool.{Bool, true, false, cond, ◌&&◌}
 use mathlib.Core.List.{List, ◌++◌, append_assoc}
-use Prim.Native.Nat.{ℕ, ◌+◌, ◌*◌, ◌-◌, ◌/◌, ◌%◌, ◌≤◌, ◌<◌, max}
+use Prim.Native.Nat.{ℕ, ◌+◌, ◌*◌, ◌-◌, ◌/◌, ◌%◌, ◌≤◌, ◌<◌, min, max}
 use native.Mathlib.Omega.{arith}
-use borrow.Author.Tests.{eq-eqb, ne_eqb, le-leb, lt-leb}
-use lib.Dec.{ltb}
+use borrow.Author.Tests.{le-leb}
+use lib.Dec.{eqb, leb, ltb}
 use lib.ListN.{length, take, drop, length-append, length-drop, take-append-drop}
 use lib.Seq.{take-take, take_at, take-append-le, drop_at, drop-append-le, length-take-le}
 use Rattle.sections.specs.Edit.{part, overwrite, fits, Edited}
@@ -17,12 +17,12 @@ use Rattle.vertices.proofs.RunLaws.{length_run}
 use Rattle.halls.specs.Checks.{triangles_of, has_three_vertices, require}
 use Rattle.halls.specs.Every.{every}
 use Rattle.halls.specs.List.{indices_body, indices_record, record_bytes}
-use Rattle.halls.specs.Inner.Judging.{indices_lowest_of}
-use Rattle.halls.specs.Inner.Order.{passed, too_large, verdict_of}
+use Rattle.halls.specs.Inner.Judging.{indices_lowest_of, lent_lowest}
+use Rattle.halls.specs.Inner.Order.{passed, too_large, failing, verdict_of}
 use Rattle.halls.specs.Inner.NewIndices.{indices_verdict, indices_of, with_new_indices}
 use Rattle.halls.specs.Step.{rewritten}
-use Rattle.halls.specs.Inner.Walk.{units}
-use Rattle.halls.specs.Verdict.{Verdict}
+use Rattle.halls.specs.Inner.Walk.{units, size_lowest}
+use Rattle.halls.specs.Verdict.{Sound}
 use Rattle.halls.proofs.format.BodyLaws.{indices_body-length}
 use Rattle.halls.proofs.edit.RewrittenLaws.{rewritten-length, rewritten-over}
 use Rattle.halls.proofs.read.ViewLaws.{Record-length}
@@ -148,42 +148,22 @@ module _ (b : List ℕ) (n at start held : ℕ) (xs : List ℕ) (front : at + 20
 
 -- ---- the checks of new indices
 
-scan_fails : (range three : Bool) (next : Verdict) → (cond range (cond three passed 27) 18 ≡ passed → ⊥) → verdict_of (cond range (cond three passed 27) 18) ≡ require 18 range (require 27 three next)
-scan_fails true true next h = absurd (h refl)
-scan_fails true false next h = refl
-scan_fails false three next h = refl
+by_ranks : (even some range three image : Bool)
+    → verdict_of (min (cond (even && some) (cond range (cond three passed 27) 18) 17) (failing too_large image)) ≡ require 17 (even && some) (require 18 range (require 27 three (require 19 image Sound)))
+by_ranks true true true true true = refl
+by_ranks true true true true false = refl
+by_ranks true true true false true = refl
+by_ranks true true true false false = refl
+by_ranks true true false three true = refl
+by_ranks true true false three false = refl
+by_ranks true false range three true = refl
+by_ranks true false range three false = refl
+by_ranks false some range three true = refl
+by_ranks false some range three false = refl
 
-scan_passes : (range three : Bool) → cond range (cond three passed 27) 18 ≡ passed → (range ≡ true) × (three ≡ true)
-scan_passes true true e = (refl, refl)
-scan_passes true false e = absurd (omega (arith, e))
-scan_passes false three e = absurd (omega (arith, e))
-
-module _ (xs : List ℕ) (count models parts : ℕ) where
-  pub lowest_uneven : (length xs % 3 ≡ 0 → ⊥) → verdict_of 17 ≡ indices_verdict xs count models parts
-  unfolding indices_verdict
-  lowest_uneven h = rw (ne_eqb (length xs % 3) 0 h)
-
-  module _ (even : length xs % 3 ≡ 0) where
-    pub lowest_few : length xs < 3 → verdict_of 17 ≡ indices_verdict xs count models parts
-    unfolding indices_verdict
-    lowest_few h = rw (eq-eqb (length xs % 3) 0 even, lt-leb 3 (length xs) h)
-
-    module _ (some : 3 ≤ length xs) {t : ℕ} (e : t ≡ indices_lowest_of count xs) where
-      pub lowest_scanned : (t ≡ passed → ⊥) → verdict_of t ≡ indices_verdict xs count models parts
-      unfolding indices_verdict indices_lowest_of
-      lowest_scanned h =
-          rw (eq-eqb (length xs % 3) 0 even, le-leb 3 (length xs) some)
-          (ap verdict_of e ∙ scan_fails (every (λ (i : ℕ). ltb i count) xs) (every has_three_vertices (triangles_of xs)) _ (λ z. h (e ∙ z)))
-
-      module _ (z : t ≡ passed) where
-        pub lowest_long : 4194304 < 1 + units (8 * models) + parts → verdict_of too_large ≡ indices_verdict xs count models parts
-        unfolding indices_verdict indices_lowest_of
-        lowest_long h =
-            let pass = scan_passes (every (λ (i : ℕ). ltb i count) xs) (every has_three_vertices (triangles_of xs)) (sym e ∙ z) in
-            rw (eq-eqb (length xs % 3) 0 even, le-leb 3 (length xs) some, pass.0, pass.1, lt-leb (1 + units (8 * models) + parts) 4194304 h)
-
-        pub lowest-none : 1 + units (8 * models) + parts ≤ 4194304 → verdict_of passed ≡ indices_verdict xs count models parts
-        unfolding indices_verdict indices_lowest_of
-        lowest-none h =
-            let pass = scan_passes (every (λ (i : ℕ). ltb i count) xs) (every has_three_vertices (triangles_of xs)) (sym e ∙ z) in
-            rw (eq-eqb (length xs % 3) 0 even, le-leb 3 (length xs) some, pass.0, pass.1, le-leb (1 + units (8 * models) + parts) 4194304 h)
+pub lowest_judged : (xs : List ℕ) (count models parts : ℕ) {t u low more : ℕ} → t ≡ lent_lowest count xs → u ≡ size_lowest models more → low ≡ min t u → more ≡ parts
+    → verdict_of low ≡ indices_verdict xs count models parts
+unfolding indices_verdict indices_lowest_of
+lowest_judged xs count models parts a b c d =
+    rw (c, a, b, d)
+    (by_ranks (eqb (length xs % 3) 0) (leb 3 (length xs)) (every (λ (i : ℕ). ltb i count) xs) (every has_three_vertices (triangles_of xs)) (leb (1 + units (8 * models) + parts) 4194304))

@@ -8,7 +8,7 @@ use Rattle.halls.specs.Blocks.{geometry_block, ModelBlock, model_block}
 use Rattle.halls.specs.Every.{Each}
 use Rattle.halls.specs.List.{Geometry, Model}
 use Rattle.halls.specs.Reading.{first, rest, or_empty, list_at, mapping_of, geometry_of}
-use Rattle.halls.specs.Inner.View.{geometry_in, geometries_at, model_of, model_in, models_at}
+use Rattle.halls.specs.Inner.View.{geometry_in, geometries_behind, geometries_at, model_of, model_in, models_at}
 use Rattle.halls.proofs.edit.SoundEdits.{each-join}
 
 -- ---- models
@@ -34,7 +34,7 @@ module _ (s : Sections) (P : Geometry → Type 0)
   geometry_in_lem shader (Some b) g = (g b refl, tt)
 
   geometries-each : (shaders ps : List ℕ) → Each P (geometries_at s shaders ps)
-  unfolding Each geometries_at
+  unfolding Each geometries_behind
   geometries-each shaders [] = tt
   geometries-each shaders (p ∷ ps) =
       each-join P (geometry_in s (first shaders) (resolved s p 0x98)) (geometries_at s (rest shaders) ps)

@@ -1,22 +1,20 @@
 -- The geometry that a view shows: it is the one that is read, and its checks are those of its numbers and of its indices as they lie.
 use Rattle.std.specs.Prelude.{Option, None, Some, option_map}
-use mathlib.Core.Path.{◌≡◌, refl, sym, ap, ◌∙◌}
+use mathlib.Core.Path.{◌≡◌, refl, sym, ap}
 use mathlib.Core.List.{List}
 use Prim.Native.Nat.{ℕ, ◌+◌, ◌*◌, ◌/◌}
 use native.Mathlib.Omega.{arith}
 use Rattle.sections.specs.Address.{Sections, resolved}
 use Rattle.vertices.specs.declared.buffer.VertexBuffer.{VertexBuffer}
 use Rattle.halls.specs.Blocks.{GeometryBlock, index_block}
-use Rattle.halls.specs.Inner.Judging.{HeadJudged, head_of, indices_lowest_of, lowest_of}
-use Rattle.halls.specs.Inner.Order.{passed}
-use Rattle.halls.specs.Reading.{vertices_of, indices_of, geometry_with, geometry_of}
-use Rattle.halls.specs.Inner.Taking.{indices_shown, geometry_shown, as_halls, lowest_in, content_in, held_in, geometry_taken, content_seen, held_seen, full_shown, head_seen}
-use Rattle.halls.specs.Inner.View.{index_view_in, bytes_seen, held_count, indices_in, indices_seen, view_with, geometry_view, BufferHeld}
+use Rattle.halls.specs.List.{Indices, Geometry}
+use Rattle.halls.specs.Reading.{content_at, vertices_of, indices_of, geometry_with, geometry_of}
+use Rattle.halls.specs.Inner.Taking.{indices_shown, geometry_shown, as_halls, lowest_in, content_in, held_in, geometry_taken, content_seen, held_seen, full_shown}
+use Rattle.halls.specs.Inner.View.{index_view_in, bytes_seen, view_with, geometry_view, BufferHeld}
 use Rattle.halls.specs.declared.edit.judge_read.Taken.{Taken}
 use Rattle.halls.specs.declared.read.view.GeometryView.{GeometryView}
 use Rattle.halls.specs.declared.read.view.IndexView.{IndexView}
 use Rattle.halls.proofs.read.HeldLaws.{items_length_lem}
-use Rattle.halls.proofs.check.JudgingLaws.{lowest-head, lowest_vertices, lowest-triangles, lowest_scanned}
 use Rattle.halls.proofs.read.ViewLaws.{block_view-is}
 
 indices_shown_lem : (s : Sections) (o : Option (List ℕ)) → indices_shown s (index_view_in s o) ≡ option_map (λ raw. indices_of s (index_block raw)) o
@@ -27,6 +25,10 @@ pub shown-is : (s : Sections) (shader : ℕ) (b : GeometryBlock) → geometry_sh
 unfolding geometry_shown geometry_view view_with geometry_of geometry_with
 shown-is s shader b =
     rw (indices_shown_lem s (resolved s b.index_block 0x60))
+
+pub shown-indices : (s : Sections) (v : GeometryView) {g : Geometry} → geometry_shown s v ≡ g → indices_shown s v.indices ≡ g.indices
+unfolding geometry_shown
+shown-indices s v is = ap (λ (x : Geometry). x.indices) is
 
 -- ---- what it comes to
 
@@ -54,30 +56,10 @@ pub lacks_vertices : (s : Sections) (v : GeometryView) → v.buffer ≡ None →
 unfolding geometry_shown
 lacks_vertices s v e = rw e
 
-pub lacks_indices : (s : Sections) (v : GeometryView) (b : VertexBuffer) → v.buffer ≡ Some b → v.indices ≡ None → as_halls (geometry_shown s v) ≡ None
+pub lacks_indices : (s : Sections) (v : GeometryView) (b : VertexBuffer) → v.buffer ≡ Some b → indices_shown s v.indices ≡ None → as_halls (geometry_shown s v) ≡ None
 unfolding geometry_shown
 lacks_indices s v b e f = rw (e, f)
 
-module _ (s : Sections) (v : GeometryView) (b : VertexBuffer) (i : IndexView) where
-  pub shown-full : v.buffer ≡ Some b → v.indices ≡ Some i → as_halls (geometry_shown s v) ≡ Some (full_shown s v b i)
-  unfolding geometry_shown full_shown vertices_of
-  shown-full e f = rw (e, f)
-
-  head-shown : head_seen v b i ≡ head_of (full_shown s v b i)
-  unfolding full_shown indices_in
-  head-shown = rw (items_length_lem i (bytes_seen s i))
-
-  module _ {r : ℕ} (j : HeadJudged (head_seen v b i) r) where
-    pub full-head : (r ≡ passed → ⊥) → r ≡ lowest_of (full_shown s v b i)
-    full-head f = lowest-head (full_shown s v b i) head-shown j f
-
-    module _ (z : r ≡ passed) where
-      pub full-triangles : held_count i ≡ 3 * v.triangle_count
-      unfolding full_shown
-      full-triangles = sym (items_length_lem i (bytes_seen s i)) ∙ lowest-triangles (full_shown s v b i) head-shown j z
-
-      pub full_scanned : {t : ℕ} → t ≡ indices_lowest_of v.vertex_count (indices_seen s i).items → t ≡ lowest_of (full_shown s v b i)
-      unfolding full_shown
-      full_scanned q =
-          let counts : v.vertex_count ≡ b.vertex_count = lowest_vertices (full_shown s v b i) head-shown j z in
-          lowest_scanned (full_shown s v b i) head-shown j z (q ∙ ap (λ (n : ℕ). indices_lowest_of n (indices_seen s i).items) counts)
+pub shown-full : (s : Sections) (v : GeometryView) (b : VertexBuffer) (i : Indices) → v.buffer ≡ Some b → indices_shown s v.indices ≡ Some i → as_halls (geometry_shown s v) ≡ Some (full_shown v b (content_at s b) i)
+unfolding geometry_shown vertices_of
+shown-full s v b i e f = rw (e, f)

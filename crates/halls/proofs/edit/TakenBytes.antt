@@ -1,163 +1,92 @@
 -- The bytes of what is taken in: those of a view's four records, of a model's geometries, and of the hall that `take_in` proposes.
-use Rattle.std.proofs.Common.{Bor}
-use Rattle.std.specs.Prelude.{Option, None, Some, option_map, option_copied, is_some}
+use Rattle.std.specs.Prelude.{Option, None, Some, option_map}
 use mathlib.Core.Path.{◌≡◌, refl, sym, ap, ◌∙◌}
-use mathlib.Core.Bool.{true, false}
 use mathlib.Core.List.{List, [], ◌∷◌, ◌++◌, map}
-use Prim.Native.Nat.{ℕ, ◌+◌, ◌*◌, ◌/◌, ◌≤◌}
+use Prim.Native.Nat.{ℕ, ◌+◌, ◌-◌, ◌*◌, ◌≤◌}
 use native.Mathlib.Omega.{arith}
 use lib.ListN.{length, length-append}
-use Rattle.sections.specs.Address.{Sections, resolved}
 use Rattle.sections.specs.Edit.{overwrite}
 use Rattle.sections.specs.Le.{bytes}
 use Rattle.sections.proofs.EditLaws.{overwrite-none, overwrite-ahead, overwrite-behind}
 use Rattle.sections.proofs.LeLaws.{length-bytes}
 use Rattle.vertices.specs.Runs.{run}
-use Rattle.vertices.specs.declared.buffer.VertexBuffer.{VertexBuffer}
-use Rattle.vertices.proofs.RunLaws.{numbers-length}
 use Rattle.halls.specs.Calls.{taken_geometry, taken_model, both, all_of}
 use Rattle.halls.specs.Hall.{FullGeometry, FullModel, Hall, listed_geometry, listed_model, hall_bytes}
-use Rattle.halls.specs.List.{Vertices, Indices, Geometry, Model, optional, each, record_bytes, model_numbers, geometry_record, model_record, write_geometry, write_geometries, write_model}
-use Rattle.halls.specs.Blocks.{ModelBlock, model_block, geometry_block}
-use Rattle.halls.specs.Reading.{first, rest, content_at, vertices_of, geometry_with, geometry_of}
+use Rattle.halls.specs.List.{Vertices, Indices, Geometry, Model, optional, each, record_bytes, model_numbers, model_record, write_geometry, write_geometries, write_model}
 use Rattle.halls.specs.Inner.Small.{Wrote}
-use Rattle.halls.specs.Inner.Taking.{geometry_shown, as_halls, geometry_bytes, model_bytes, records_shown, full_shown}
-use Rattle.halls.specs.Inner.Measure.{whole_numbers}
-use Rattle.halls.specs.Inner.View.{ListsOf, bytes_seen, held_count, geometry_view, geometry_in, geometries_at, model_of, model_in}
-use Rattle.halls.specs.declared.read.view.GeometryView.{GeometryView}
-use Rattle.halls.specs.declared.read.view.IndexView.{IndexView}
-use Rattle.halls.proofs.read.EachLaws.{each-one}
-use Rattle.halls.proofs.read.HeldLaws.{items_length_lem}
-use Rattle.halls.proofs.read.ModelLaws.{mapping-numbers, pointer-numbers}
-use Rattle.halls.proofs.edit.ShownLaws.{shown-is, shown-full, lacks_vertices, lacks_indices}
+use Rattle.halls.specs.Inner.Taking.{as_halls, geometry_bytes, model_bytes, shader_bytes}
 use Rattle.halls.proofs.read.ViewLaws.{Record-length, geometry_record-length, declaration_record-length, vertices_record-length, indices_record-length}
 
 -- nothing was written
 pub wrote-none : (s : List ℕ) (at : ℕ) {w : List ℕ} → w ≡ [] → Wrote s at w at s
 wrote-none s at e = rw e (omega arith, sym (overwrite-none s at))
 
--- ---- a view
+-- ---- a geometry
 
-pub shown-length : (view : GeometryView) (b : VertexBuffer) (content : List ℕ) (v : IndexView) (raw : List ℕ)
-    → length (records_shown view b content v raw) ≡ 65 + length content + 4 * held_count v
-unfolding records_shown
-shown-length view b content v raw =
-    simp (length-append, geometry_record-length, declaration_record-length, vertices_record-length, indices_record-length, items_length_lem) (omega arith)
+-- the records of a whole geometry
+pub whole-length : (f : FullGeometry) → length (write_geometry (listed_geometry f)) ≡ 65 + length f.vertices.content + 4 * length f.indices.items
+unfolding write_geometry
+whole-length f = simp (length-append, geometry_record-length, declaration_record-length, vertices_record-length, indices_record-length) (omega arith)
 
-full-bytes : (g : Geometry) (f : FullGeometry) → as_halls g ≡ Some f → geometry_bytes g ≡ write_geometry (listed_geometry f)
+pub whole-room : {f g : FullGeometry} (at n : ℕ) → f ≡ g → at + length (write_geometry (listed_geometry g)) ≤ n → at + (65 + length f.vertices.content + 4 * length f.indices.items) ≤ n
+whole-room {f} {g} at n e room = omega (arith, room, ap (λ (x : FullGeometry). length (write_geometry (listed_geometry x))) e, whole-length f)
+
+pub full-bytes : (g : Geometry) (f : FullGeometry) → as_halls g ≡ Some f → geometry_bytes g ≡ write_geometry (listed_geometry f)
 unfolding geometry_bytes
 full-bytes g f e = ap (optional (λ (x : FullGeometry). write_geometry (listed_geometry x))) e
 
-lacking : (g : Geometry) → as_halls g ≡ None → geometry_bytes g ≡ []
+pub lacking : (g : Geometry) → as_halls g ≡ None → geometry_bytes g ≡ []
 unfolding geometry_bytes
 lacking g e = ap (optional (λ (x : FullGeometry). write_geometry (listed_geometry x))) e
 
-module _ (s : Sections) (view : GeometryView) where
-  pub shown-bytes : (b : VertexBuffer) (v : IndexView) → view.buffer ≡ Some b → view.indices ≡ Some v → (content raw : List ℕ) → content ≡ content_at s b → raw ≡ bytes_seen s v
-      → geometry_bytes (geometry_shown s view) ≡ records_shown view b content v raw
-  unfolding records_shown write_geometry geometry_record full_shown vertices_of
-  shown-bytes b v e f content raw c r = full-bytes (geometry_shown s view) (full_shown s view b v) (shown-full s view b v e f) ∙ rw (← c, ← r)
-
-  pub shown-none : view.buffer ≡ None → geometry_bytes (geometry_shown s view) ≡ []
-  shown-none e = lacking (geometry_shown s view) (lacks_vertices s view e)
-
-  pub shown-unindexed : (b : VertexBuffer) → view.buffer ≡ Some b → view.indices ≡ None → geometry_bytes (geometry_shown s view) ≡ []
-  shown-unindexed b e f = lacking (geometry_shown s view) (lacks_indices s view b e f)
-
--- ---- behind a pointer
-
--- whether there is a block
-pub is_some_copied : (o : Option (Bor (List ℕ))) → is_some (option_copied o) ≡ is_some o
-is_some_copied None = refl
-is_some_copied (Some b) = refl
-
-pub no_block : (o : Option (List ℕ)) → is_some o ≡ false → o ≡ None
-no_block None e = refl
-no_block (Some b) e = let z : ◌≡◌ {A = ℕ} 0 1 = cc in absurd (omega arith)
-
-pub shader_in : (s : Sections) (shader : ℕ) (o : Option (List ℕ)) → is_some o ≡ true → each (λ (g : Geometry). bytes 2 g.shader) (geometry_in s shader o) ≡ bytes 2 shader
-unfolding geometry_of geometry_with
-shader_in s shader None e = let z : ◌≡◌ {A = ℕ} 0 1 = cc in absurd (omega arith)
-shader_in s shader (Some raw) e = each-one (λ (g : Geometry). bytes 2 g.shader) (geometry_of s shader (geometry_block raw))
-
-module _ (s : Sections) (shader pointer : ℕ) (raw : List ℕ) (e : resolved s pointer 0x98 ≡ Some raw) where
-  pub geometry_in_lem : (v : GeometryView) → v ≡ geometry_view s shader (geometry_block raw) → geometry_bytes (geometry_shown s v) ≡ each geometry_bytes (geometry_in s shader (resolved s pointer 0x98))
-  geometry_in_lem v q =
-      ap (λ (x : GeometryView). geometry_bytes (geometry_shown s x)) q ∙ ap geometry_bytes (shown-is s shader (geometry_block raw))
-      ∙ sym (each-one geometry_bytes (geometry_of s shader (geometry_block raw))) ∙ ap (λ (o : Option (List ℕ)). each geometry_bytes (geometry_in s shader o)) (sym e)
-
 -- ---- a model: the mapping, its numbers before it, and the geometries behind
 
-shaders-run : (gs : List Geometry) → each (λ (g : Geometry). bytes 2 g.shader) gs ≡ run 2 (map (λ (g : Geometry). g.shader) gs)
+shaders-run : (gs : List Geometry) → each shader_bytes gs ≡ run 2 (map (λ (g : Geometry). g.shader) gs)
 unfolding each run
 shaders-run [] = refl
 shaders-run (g ∷ gs) = rw (shaders-run gs)
 
--- there are no more than pointers, two bytes each
-geometry-one : (s : Sections) (shader : ℕ) (o : Option (List ℕ)) → length (geometry_in s shader o) ≤ 1
-geometry-one s shader None = omega arith
-geometry-one s shader (Some b) = omega arith
-
-geometries-few : (s : Sections) (shaders ps : List ℕ) → length (geometries_at s shaders ps) ≤ length ps
-unfolding geometries_at
-geometries-few s shaders [] = omega arith
-geometries-few s shaders (p ∷ ps) =
-    rw length-append (omega (arith, geometry-one s (first shaders) (resolved s p 0x98), geometries-few s (rest shaders) ps))
-
-shaders-length : (gs : List Geometry) → length (each (λ (g : Geometry). bytes 2 g.shader) gs) ≡ 2 * length gs
+-- two bytes each
+pub shaders-length : (gs : List Geometry) → length (each shader_bytes gs) ≡ 2 * length gs
 unfolding each
 shaders-length [] = refl
 shaders-length (g ∷ gs) = rw (length-append, length-bytes, shaders-length gs) (omega arith)
-
-pub shaders-few : (s : Sections) (shaders pointers : List ℕ) → length (each (λ (g : Geometry). bytes 2 g.shader) (geometries_at s shaders (whole_numbers 8 pointers))) ≤ length pointers
-shaders-few s shaders pointers =
-    let ps = whole_numbers 8 pointers in
-    omega (arith, shaders-length (geometries_at s shaders ps), geometries-few s shaders ps, numbers-length 8 (length pointers / 8) pointers)
 
 pub numbers-length-12 : (body binding mask : ℕ) → length (model_numbers body binding mask) ≡ 12
 unfolding bytes
 numbers-length-12 body binding mask = refl
 
-module _ (binding mask : ℕ) (gs : List Geometry) where
-  abbrev model : Model
-  model = record { binding = binding; mask = mask; mapping = []; geometries = gs }
+module _ (m : Model) where
+  abbrev shaders : List ℕ
+  shaders = each shader_bytes m.geometries
 
-  abbrev pub shaders : List ℕ
-  shaders = each (λ (g : Geometry). bytes 2 g.shader) gs
+  abbrev inside : List ℕ
+  inside = each geometry_bytes m.geometries
 
-  parts : (body : ℕ) → body ≡ 6 + length shaders → (model_numbers body binding mask ++ shaders) ++ each geometry_bytes gs ≡ model_bytes model
+  parts : (body : ℕ) → body ≡ 6 + length shaders → (model_numbers body m.binding m.mask ++ shaders) ++ inside ≡ model_bytes m
   unfolding model_bytes record_bytes bytes
   parts body e =
-      let r : List ℕ = run 2 (map (λ (g : Geometry). g.shader) gs) in
-      let q : body ≡ length (bytes 4 binding ++ (bytes 2 mask ++ r)) = omega (arith, e, ap length (shaders-run gs)) in
-      ap (λ (x : List ℕ). (model_numbers body binding mask ++ x) ++ each geometry_bytes gs) (shaders-run gs)
-      ∙ ap (λ (k : ℕ). (model_numbers k binding mask ++ r) ++ each geometry_bytes gs) q
+      let r : List ℕ = run 2 (map (λ (g : Geometry). g.shader) m.geometries) in
+      let q : body ≡ length (bytes 4 m.binding ++ (bytes 2 m.mask ++ r)) = omega (arith, e, ap length (shaders-run m.geometries)) in
+      ap (λ (x : List ℕ). (model_numbers body m.binding m.mask ++ x) ++ inside) (shaders-run m.geometries) ∙ ap (λ (k : ℕ). (model_numbers k m.binding m.mask ++ r) ++ inside) q
 
-  pub model_bytes-length : length (model_bytes model) ≡ 12 + length shaders + length (each geometry_bytes gs)
+  pub model_bytes-length : length (model_bytes m) ≡ 12 + length shaders + length inside
   unfolding model_bytes
-  model_bytes-length = rw (← shaders-run gs) (simp (length-append, Record-length, length-bytes) (omega arith))
+  model_bytes-length = rw (← shaders-run m.geometries) (simp (length-append, Record-length, length-bytes) (omega arith))
 
-  pub model-put : (out : List ℕ) (at body next : ℕ) {one two t : List ℕ} → one ≡ overwrite out (at + 12) shaders → two ≡ overwrite one at (model_numbers body binding mask)
-      → body ≡ 6 + length shaders → next ≡ at + 12 + length shaders → t ≡ overwrite two next (each geometry_bytes gs) → at + length (model_bytes model) ≤ length out → t ≡ overwrite out at (model_bytes model)
-  model-put out at body next {one} {two} e f b n g fit =
-      let head : List ℕ = model_numbers body binding mask in
+  pub model-put : (out : List ℕ) (at : ℕ) {body binding mask next r : ℕ} {one two t : List ℕ} → Wrote out (at + 12) shaders next one → body ≡ next - at - 6 → binding ≡ m.binding → mask ≡ m.mask
+      → two ≡ overwrite one at (model_numbers body binding mask) → Wrote two next inside r t → at + length (model_bytes m) ≤ length out → Wrote out at (model_bytes m) r t
+  model-put out at {body} {mask = mask} {next} {one = one} {two} w b e f put g fit =
+      let head : List ℕ = model_numbers body m.binding m.mask in
+      let told : two ≡ overwrite one at head = put ∙ ap (λ (k : ℕ). overwrite one at (model_numbers body k mask)) e ∙ ap (λ (k : ℕ). overwrite one at (model_numbers body m.binding k)) f in
       let first : two ≡ overwrite out at (head ++ shaders) =
-      f ∙ ap (λ (x : List ℕ). overwrite x at head) e ∙ overwrite-ahead out at 12 head shaders (numbers-length-12 body binding mask) (omega (arith, model_bytes-length)) in
-      let long : length (head ++ shaders) ≡ 12 + length shaders = length-append head shaders ∙ ap (λ (k : ℕ). k + length shaders) (numbers-length-12 body binding mask) in
-      let place : next ≡ at + (12 + length shaders) = omega arith in
-      overwrite-behind out at (head ++ shaders) (12 + length shaders) (each geometry_bytes gs) first long (g ∙ ap (λ (k : ℕ). overwrite two k (each geometry_bytes gs)) place) (omega (arith, model_bytes-length))
-      ∙ ap (overwrite out at) (parts body b)
-
--- the model of a block with its lists
-module _ (s : Sections) (b : ModelBlock) (pointers mapping : List ℕ) (l : ListsOf s b pointers mapping) where
-  pub Block-bytes : (binding mask : ℕ) → binding ≡ b.binding → mask ≡ b.mask
-      → model_bytes (record { binding = binding; mask = mask; mapping = []; geometries = geometries_at s (whole_numbers 2 mapping) (whole_numbers 8 pointers) }) ≡ model_bytes (model_of s b)
-  unfolding model_bytes model_of
-  Block-bytes binding mask e f = rw (e, f, ← mapping-numbers s b pointers mapping l, ← pointer-numbers s b pointers mapping l)
-
--- the model behind a pointer
-pub model_bytes-in : (s : Sections) (pointer : ℕ) (raw : List ℕ) → resolved s pointer 0x30 ≡ Some raw → model_bytes (model_of s (model_block raw)) ≡ each model_bytes (model_in s (resolved s pointer 0x30))
-model_bytes-in s pointer raw e = sym (each-one model_bytes (model_of s (model_block raw))) ∙ ap (λ (o : Option (List ℕ)). each model_bytes (model_in s o)) (sym e)
+      told ∙ ap (λ (x : List ℕ). overwrite x at head) w.1 ∙ overwrite-ahead out at 12 head shaders (numbers-length-12 body m.binding m.mask) (omega (arith, model_bytes-length)) in
+      let long : length (head ++ shaders) ≡ 12 + length shaders = length-append head shaders ∙ ap (λ (k : ℕ). k + length shaders) (numbers-length-12 body m.binding m.mask) in
+      let place : next ≡ at + (12 + length shaders) = omega (arith, w.0) in (
+        omega (arith, w.0, g.0, model_bytes-length),
+        overwrite-behind out at (head ++ shaders) (12 + length shaders) inside first long (g.1 ∙ ap (λ (k : ℕ). overwrite two k inside) place) (omega (arith, model_bytes-length))
+            ∙ ap (overwrite out at) (parts body (omega (arith, b, w.0))),
+      )
 
 -- ---- the hall
 

@@ -1,8 +1,7 @@
--- A loop that adds up the items behind some pointers: what they came to so far, and what is left. `left i` is what is left after i pointers.
+-- A loop that adds up some items: what they came to so far, and what is left.
 use mathlib.Core.Path.{◌≡◌, refl, sym, ap, subst, ◌∙◌}
-use mathlib.Core.List.{List, [], ◌∷◌, ◌++◌, append_assoc, append-nil}
-use Prim.Native.Nat.{ℕ, suc, ◌+◌, ◌*◌, ◌/◌, ◌≤◌}
-use native.Mathlib.Numerals.{add-one}
+use mathlib.Core.List.{List, [], ◌∷◌}
+use Prim.Native.Nat.{ℕ, ◌+◌, ◌*◌, ◌/◌, ◌≤◌}
 use native.Mathlib.Omega.{arith}
 use Rattle.halls.specs.Inner.Taking.{nothing_taken, together, all_taken, record_taken, Fitting}
 use Rattle.halls.specs.declared.edit.judge_read.Taken.{Taken}
@@ -36,11 +35,6 @@ module _ {A : Type 0} (f : A → Taken) where
   all-low [] = omega arith
   all-low (x ∷ xs) = omega (arith, all-low xs)
 
-  all_append : (xs ys : List A) → all_taken f (xs ++ ys) ≡ together (all_taken f xs) (all_taken f ys)
-  unfolding all_taken
-  all_append [] ys = sym (nothing-before (all_taken f ys) (all-low ys))
-  all_append (x ∷ xs) ys = ap (together (f x)) (all_append xs ys) ∙ sym (together-assoc (f x) (all_taken f xs) (all_taken f ys))
-
 -- a part of a sum that fits
 fits-first : (a b : Taken) → Fitting (together a b) → Fitting a
 fits-first a b h = record { models = omega (arith, h.models); geometries = omega (arith, h.geometries); image = omega (arith, h.image); long = omega (arith, h.long) }
@@ -50,51 +44,39 @@ fits-second a b h = record { models = omega (arith, h.models); geometries = omeg
 
 -- ---- the loop
 
-pub record TakingItems {A : Type 0} (f : A → Taken) (left : ℕ → List A) (i : ℕ) (total : Taken) : Type 0 where
-  pub done : List A
-  pub total-is : total ≡ all_taken f done
-  pub whole : left 0 ≡ done ++ left i
-  pub fits : Fitting (all_taken f (left 0))
+pub record TakingItems {A : Type 0} (f : A → Taken) (all left : List A) (total : Taken) : Type 0 where
+  pub whole : together total (all_taken f left) ≡ all_taken f all
+  pub low : total.lowest ≤ passed
 
-pub taking-start : {A : Type 0} (f : A → Taken) (left : ℕ → List A) {total : Taken} → total ≡ nothing_taken → Fitting (all_taken f (left 0)) → TakingItems f left 0 total
-unfolding all_taken
-taking-start f left e h = record { done = []; total-is = e; whole = refl; fits = h }
+pub taking-start : {A : Type 0} (f : A → Taken) (all : List A) {total : Taken} → total ≡ nothing_taken → TakingItems f all all total
+taking-start f all e = record {
+  whole = ap (λ (t : Taken). together t (all_taken f all)) e ∙ nothing-before (all_taken f all) (all-low f all);
+  low = rw e (omega arith);
+}
 
-module _ {A : Type 0} {f : A → Taken} {left : ℕ → List A} {i : ℕ} {total : Taken} (w : TakingItems f left i total) where
+module _ {A : Type 0} {f : A → Taken} {all left : List A} {total : Taken} (w : TakingItems f all left total) where
   -- nothing is left
-  pub taking-end : left i ≡ [] → total ≡ all_taken f (left 0)
-  taking-end e = w.total-is ∙ ap (all_taken f) (sym (w.whole ∙ rw e (append-nil w.done)))
+  pub taking-end : left ≡ [] → total ≡ all_taken f all
+  unfolding all_taken
+  taking-end e = sym (nothing-behind total w.low) ∙ ap (λ (xs : List A). together total (all_taken f xs)) (sym e) ∙ w.whole
 
-  -- the next pointer has none
-  pub taking_skip : left i ≡ left (suc i) → TakingItems f left (i + 1) total
-  taking_skip e = record {
-    done = w.done;
-    total-is = w.total-is;
-    whole = w.whole ∙ ap (λ (xs : List A). w.done ++ xs) e ∙ ap (λ k. w.done ++ left k) (sym (add-one i));
-    fits = w.fits;
-  }
+  -- the next item
+  module _ {x : A} {others : List A} (step : left ≡ x ∷ others) where
+    next-whole : together (together total (f x)) (all_taken f others) ≡ all_taken f all
+    unfolding all_taken
+    next-whole = together-assoc total (f x) (all_taken f others) ∙ ap (λ (xs : List A). together total (all_taken f xs)) (sym step) ∙ w.whole
 
-  -- the next pointer has these items
-  module _ (one : List A) (step : left i ≡ one ++ left (suc i)) where
-    all : left 0 ≡ (w.done ++ one) ++ left (suc i)
-    all = w.whole ∙ ap (λ (xs : List A). w.done ++ xs) step ∙ sym (append_assoc w.done one (left (suc i)))
+    fits-so_far : Fitting (all_taken f all) → Fitting (together total (f x))
+    fits-so_far fits = fits-first (together total (f x)) (all_taken f others) (subst Fitting (sym next-whole) fits)
 
-    fits-so_far : Fitting (together (all_taken f w.done) (all_taken f one))
-    fits-so_far =
-        rw (← all_append f w.done one)
-        (fits-first (all_taken f (w.done ++ one)) (all_taken f (left (suc i))) (subst Fitting (ap (all_taken f) all ∙ all_append f (w.done ++ one) (left (suc i))) w.fits))
+    pub taking-part : Fitting (all_taken f all) → Fitting (f x)
+    taking-part fits = fits-second total (f x) (fits-so_far fits)
 
-    pub taking-part : Fitting (all_taken f one)
-    taking-part = fits-second (all_taken f w.done) (all_taken f one) fits-so_far
+    module _ {r : Taken} (e : r ≡ f x) where
+      pub taking_room : Fitting (all_taken f all) → Fitting (together total r)
+      taking_room fits = rw e (fits-so_far fits)
 
-    module _ {r : Taken} (e : r ≡ all_taken f one) where
-      pub taking_room : Fitting (together total r)
-      taking_room = rw (w.total-is, e) fits-so_far
-
-      pub taking_turn : {t : Taken} → t ≡ together total r → TakingItems f left (i + 1) t
-      taking_turn q = record {
-        done = w.done ++ one;
-        total-is = q ∙ ap (λ (x : Taken). together x r) w.total-is ∙ ap (together (all_taken f w.done)) e ∙ sym (all_append f w.done one);
-        whole = all ∙ ap (λ k. (w.done ++ one) ++ left k) (sym (add-one i));
-        fits = w.fits;
-      }
+      pub taking_turn : {t : Taken} → t ≡ together total r → TakingItems f all others t
+      taking_turn q =
+          let is = q ∙ ap (together total) e in
+          record { whole = ap (λ (t : Taken). together t (all_taken f others)) is ∙ next-whole; low = rw is (omega (arith, w.low)) }

@@ -1,27 +1,19 @@
 -- One geometry and one model as they are read: what they come to.
 use Rattle.std.specs.Prelude.{Option, None, Some}
-use mathlib.Core.Path.{◌≡◌, refl, sym, ap, ◌∙◌}
+use mathlib.Core.Path.{◌≡◌, refl, ap, ◌∙◌}
 use mathlib.Core.Bool.{Bool, true, false, cond}
 use mathlib.Core.List.{List, [], ◌∷◌}
 use Prim.Native.Nat.{ℕ, ◌≤◌}
 use native.Mathlib.Omega.{arith}
 use lib.ListN.{length}
-use Rattle.sections.specs.Address.{Sections, resolved}
-use Rattle.halls.specs.Blocks.{ModelBlock, model_block, geometry_block}
 use Rattle.halls.specs.Checks.{strides_agree, components_inside, vertex_counts_agree, index_counts_agree, indices_in_range, triangles_distinct}
 use Rattle.halls.specs.Hall.{FullGeometry}
 use Rattle.halls.specs.Inner.Judging.{lowest_of}
 use Rattle.halls.specs.Inner.Order.{passed}
 use Rattle.halls.specs.List.{Geometry, Model}
-use Rattle.halls.specs.Reading.{geometry_of}
-use Rattle.halls.specs.Inner.Taking.{geometry_shown, as_halls, lowest_in, geometry_taken, together, all_taken, record_taken, model_taken, Fitting}
-use Rattle.halls.specs.Inner.Measure.{whole_numbers}
-use Rattle.halls.specs.Inner.View.{geometry_view, geometry_in, ListsOf, geometries_at, model_of, model_in}
+use Rattle.halls.specs.Inner.Taking.{lowest_in, geometry_taken, together, all_taken, record_taken, model_taken, Fitting}
 use Rattle.halls.specs.declared.edit.judge_read.Taken.{Taken}
-use Rattle.halls.specs.declared.read.view.GeometryView.{GeometryView}
-use Rattle.halls.proofs.read.ModelLaws.{mapping-numbers, pointer-numbers}
-use Rattle.halls.proofs.edit.ShownLaws.{shown-is}
-use Rattle.halls.proofs.edit.TakingItems.{nothing-behind, fits-second}
+use Rattle.halls.proofs.edit.TakingItems.{fits-second}
 
 -- ---- one geometry
 
@@ -42,17 +34,6 @@ in_low : (o : Option FullGeometry) → lowest_in o ≤ passed
 in_low None = omega arith
 in_low (Some g) = (of_bounds g).1
 
-one-geometry : (g : Geometry) → all_taken geometry_taken (g ∷ []) ≡ geometry_taken g
-unfolding all_taken geometry_taken
-one-geometry g = nothing-behind (geometry_taken g) (in_low (as_halls g))
-
--- the geometry of the block behind a pointer
-pub geometry_in_lem : (s : Sections) (shader pointer : ℕ) (raw : List ℕ) → resolved s pointer 0x98 ≡ Some raw → (v : GeometryView) → v ≡ geometry_view s shader (geometry_block raw)
-    → geometry_taken (geometry_shown s v) ≡ all_taken geometry_taken (geometry_in s shader (resolved s pointer 0x98))
-geometry_in_lem s shader pointer raw e v q =
-    ap (λ (x : GeometryView). geometry_taken (geometry_shown s x)) q ∙ ap geometry_taken (shown-is s shader (geometry_block raw)) ∙ sym (one-geometry (geometry_of s shader (geometry_block raw)))
-    ∙ ap (λ (o : Option (List ℕ)). all_taken geometry_taken (geometry_in s shader o)) (sym e)
-
 -- ---- one model
 
 -- as many as were read
@@ -61,27 +42,14 @@ unfolding all_taken geometry_taken
 geometries-counted [] = refl
 geometries-counted (g ∷ gs) = omega (arith, geometries-counted gs)
 
-module _ (s : Sections) (b : ModelBlock) (pointers mapping : List ℕ) (l : ListsOf s b pointers mapping) where
-  abbrev geometries : List Geometry
-  geometries = geometries_at s (whole_numbers 2 mapping) (whole_numbers 8 pointers)
+module _ (m : Model) where
+  pub geometries-fit : Fitting (model_taken m) → Fitting (all_taken geometry_taken m.geometries)
+  unfolding model_taken
+  geometries-fit fits = fits-second (record_taken (length m.geometries)) (all_taken geometry_taken m.geometries) fits
 
-  -- its record, and the geometries by the bytes of its lists
-  by_lists : model_taken (model_of s b) ≡ together (record_taken (length geometries)) (all_taken geometry_taken geometries)
-  unfolding model_taken model_of
-  by_lists = rw (pointer-numbers s b pointers mapping l, mapping-numbers s b pointers mapping l)
-
-  pub geometries-fit : Fitting (model_taken (model_of s b)) → Fitting (all_taken geometry_taken geometries)
-  geometries-fit fits = fits-second (record_taken (length geometries)) (all_taken geometry_taken geometries) (rw by_lists at fits)
-
-  pub model_taken_lem : {r : Taken} → r ≡ all_taken geometry_taken geometries → together (record_taken r.geometries) r ≡ model_taken (model_of s b)
+  -- its record, and its geometries
+  pub model_taken_lem : {r : Taken} → r ≡ all_taken geometry_taken m.geometries → together (record_taken r.geometries) r ≡ model_taken m
+  unfolding model_taken
   model_taken_lem e =
-      ap (λ (x : Taken). together (record_taken x.geometries) x) e ∙ ap (λ (n : ℕ). together (record_taken n) (all_taken geometry_taken geometries)) (geometries-counted geometries)
-      ∙ sym by_lists
-
-one-model : (m : Model) → all_taken model_taken (m ∷ []) ≡ model_taken m
-unfolding all_taken model_taken
-one-model m = nothing-behind (model_taken m) (omega arith)
-
--- the model of the block behind a pointer
-pub model_in_lem : (s : Sections) (pointer : ℕ) (raw : List ℕ) → resolved s pointer 0x30 ≡ Some raw → model_taken (model_of s (model_block raw)) ≡ all_taken model_taken (model_in s (resolved s pointer 0x30))
-model_in_lem s pointer raw e = sym (one-model (model_of s (model_block raw))) ∙ ap (λ (o : Option (List ℕ)). all_taken model_taken (model_in s o)) (sym e)
+      ap (λ (x : Taken). together (record_taken x.geometries) x) e
+      ∙ ap (λ (n : ℕ). together (record_taken n) (all_taken geometry_taken m.geometries)) (geometries-counted m.geometries)

@@ -4,15 +4,11 @@ use mathlib.Core.Path.{◌≡◌, refl, sym, ap, ◌∙◌}
 use mathlib.Core.Bool.{Bool, true, false, cond}
 use mathlib.Core.List.{List, [], ◌∷◌, ◌++◌, append_assoc}
 use Prim.Native.Nat.{ℕ, zero, suc, ◌+◌, ◌*◌, ◌-◌, ◌/◌, ◌^◌, ◌≤◌, ◌<◌, min}
-use native.Mathlib.Nat.{lt_of_not-le}
-use native.Mathlib.Decide.{dec_le}
 use native.Mathlib.Omega.{arith}
 use borrow.Author.Tests.{ne_eqb}
 use lib.Dec.{eqb}
-use lib.ListN.{length, take, drop, length-append, length-drop}
-use lib.Seq.{drop-drop}
-use Rattle.sections.specs.Edit.{part}
-use Rattle.sections.specs.Le.{bytes, field}
+use lib.ListN.{length, take, drop, length-append}
+use Rattle.sections.specs.Le.{bytes}
 use Rattle.sections.proofs.LeLaws.{length-bytes}
 use Rattle.vertices.specs.Declaration.{declaration_bytes}
 use Rattle.vertices.specs.Runs.{run}
@@ -20,11 +16,12 @@ use Rattle.vertices.specs.declared.declaration.VertexDeclaration.{VertexDeclarat
 use Rattle.vertices.proofs.RunLaws.{length_run}
 use Rattle.halls.specs.Every.{Each}
 use Rattle.halls.specs.List.{Vertices, Indices, Geometry, Model, each, record_bytes, optional, model_record, geometry_record, declaration_record, vertices_record, indices_record, write_geometry, write_geometries, write_model, write}
-use Rattle.halls.specs.Inner.Spans.{Spans}
+use Rattle.halls.specs.Inner.Spans.{spans_at}
 use Rattle.halls.specs.declared.format.walk.RecordSpan.{RecordSpan}
-use Rattle.halls.specs.Records.{Record, body_length, front_record, records}
+use Rattle.halls.specs.Records.{Record, records}
 use Rattle.halls.specs.Triangles.{held_by, triangles_of, triangles_of_all, triangles, stored_count, held_count, added, awaits, triangles_from, triangles_in, Short, FittingGeometry, Fitting}
-use Rattle.halls.proofs.format.RecordLaws.{field-drop, length_at, field-behind, records-stop, records-step, records-written}
+use Rattle.halls.proofs.format.RecordLaws.{field-behind, records-stop, records-written}
+use Rattle.halls.proofs.format.SpanLaws.{split-none, records-one, First, first_span}
 use Rattle.halls.proofs.read.ViewLaws.{Record-length, declaration_record-length}
 
 -- ---- a record, by its kind
@@ -68,57 +65,44 @@ module _ (b : Bool) (kind : ℕ) (body : List ℕ) where
 abbrev greatest : ℕ
 greatest = 2 ^ 64 - 1
 
--- of s the records before `at` are counted
-pub record Counting (s : List ℕ) (at : ℕ) (awaited : Bool) (total : ℕ) : Type 0 where
+-- of s the records before those that are left are counted
+pub record Counting (s : List ℕ) (rest : List RecordSpan) (awaited : Bool) (total : ℕ) : Type 0 where
+  pub at : ℕ
   pub low : at ≤ length s
+  pub rest-is : spans_at s at ≡ rest
   pub sum : ℕ
   pub total-is : total ≡ min sum greatest
   pub whole : triangles_in (records s) ≡ sum + triangles_from awaited (records (drop at s))
 
-pub Counting-start : (s : List ℕ) → Counting s 0 false 0
+pub Counting-start : (s : List ℕ) {rest : List RecordSpan} → rest ≡ spans_at s 0 → Counting s rest false 0
 unfolding triangles_in
-Counting-start s = record { low = omega arith; sum = 0; total-is = refl; whole = omega arith }
+Counting-start s e = record { at = 0; low = omega arith; rest-is = sym e; sum = 0; total-is = refl; whole = omega arith }
 
-module _ {s : List ℕ} {at : ℕ} {awaited : Bool} {total : ℕ} (w : Counting s at awaited total) where
-  abbrev left : List ℕ
-  left = drop at s
-
-  Counted-all : length left < 6 + body_length left → total ≡ min (triangles_in (records s)) greatest
+module _ {s : List ℕ} {rest : List RecordSpan} {awaited : Bool} {total : ℕ} (w : Counting s rest awaited total) where
+  -- no record is left
+  pub Counting-end : rest ≡ [] → total ≡ min (triangles_in (records s)) greatest
   unfolding triangles_from
-  Counted-all h =
-      let e : triangles_from awaited (records left) ≡ 0 = rw (records-stop left h) in
-      let whole : triangles_in (records s) ≡ w.sum = omega (arith, w.whole) in
+  Counting-end e =
+      let none : records (drop w.at s) ≡ [] = split-none w.at (records (drop w.at s)) (w.rest-is ∙ e) in
+      let whole : triangles_in (records s) ≡ w.sum = omega (arith, rw none at w.whole) in
       rw whole w.total-is
 
-  -- no whole record is left
-  pub Counting-end : length s < at + 6 + field 4 s at → total ≡ min (triangles_in (records s)) greatest
-  Counting-end l =
-      elim (dec_le (at + 6) (length s)) [
-        | yes y ↦ let b = length_at s at y refl in Counted-all (rw length-drop (omega arith))
-        | no y ↦ let few = lt_of_not-le y in Counted-all (rw length-drop (omega (arith, few)))
-      ]
+  module _ {found : RecordSpan} {others : List RecordSpan} (e : rest ≡ found ∷ others) where
+    first : First s w.at found others
+    first = first_span s w.at w.low (w.rest-is ∙ e)
 
-  -- its body is cut
-  pub Counting-broken : {n : ℕ} → at + 6 ≤ length s → n ≡ field 4 s at → length s < at + 6 + n → total ≡ min (triangles_in (records s)) greatest
-  Counting-broken h e l = Counting-end (omega (arith, e))
+    -- its body is inside
+    pub Counting-inside : (found.start ≤ found.end) × (found.end ≤ length s)
+    Counting-inside = let q = first.whole in (omega (arith, q.start-is, q.end-is), q.inside)
 
-  -- one record more
-  pub Counting-turn : {found : RecordSpan} {more next : ℕ} {behind : Bool} → Spans s at found
-      → more ≡ added awaited (record { kind = found.kind; body = take (found.end - found.start) (drop found.start s) })
-      → behind ≡ awaits awaited (record { kind = found.kind; body = take (found.end - found.start) (drop found.start s) })
-      → next ≡ min (total + more) greatest → Counting s found.end behind next
-  unfolding front_record part triangles_from
-  Counting-turn {found} {more} {next} {behind} q m a t =
-      let b : body_length left ≡ field 4 s at = length_at s at (omega (arith, q.inside, q.end-is)) refl in
-      let size : found.end - found.start ≡ field 4 s at = omega (arith, q.end-is, q.start-is) in
-      let kind-is : field 2 left 4 ≡ found.kind = field-drop 2 s at 4 (omega (arith, q.inside, q.end-is)) ∙ sym q.kind-is in
-      let body_is : take (body_length left) (drop 6 left) ≡ take (found.end - found.start) (drop found.start s) = rw (b, size, q.start-is, drop-drop 6 at s) in
-      let fit : 6 + body_length left ≤ length left = rw length-drop (omega (arith, b, q.inside, q.end-is)) in
-      let place : at + (6 + body_length left) ≡ found.end = omega (arith, b, q.end-is) in
-      let behind-is : drop (6 + body_length left) left ≡ drop found.end s = rw (drop-drop (6 + body_length left) at s, place) in
-      let step : records left ≡ record { kind = found.kind; body = take (found.end - found.start) (drop found.start s) } ∷ records (drop found.end s) = records-step left fit ∙ cc in
-      let all : triangles_from awaited (records left) ≡ more + triangles_from behind (records (drop found.end s)) = rw (step, m, a) in
-      record { low = q.inside; sum = w.sum + more; total-is = omega (arith, t, w.total-is); whole = omega (arith, all, w.whole) }
+    -- one record more
+    pub Counting-turn : {more next : ℕ} {behind : Bool} → more ≡ added awaited (record { kind = found.kind; body = take (found.end - found.start) (drop found.start s) })
+        → behind ≡ awaits awaited (record { kind = found.kind; body = take (found.end - found.start) (drop found.start s) })
+        → next ≡ min (total + more) greatest → Counting s others behind next
+    unfolding triangles_from
+    Counting-turn {more} {next} {behind} m a t =
+        let all : triangles_from awaited (records (drop w.at s)) ≡ more + triangles_from behind (records (drop found.end s)) = rw (records-one s w.at w.low first.whole, m, a) in
+        record { at = found.end; low = first.whole.inside; rest-is = first.behind; sum = w.sum + more; total-is = omega (arith, t, w.total-is); whole = omega (arith, all, w.whole) }
 
 -- ---- what models are written in
 

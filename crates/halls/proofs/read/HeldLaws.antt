@@ -1,16 +1,15 @@
 -- The bytes of a view's indices, by their width.
 use Rattle.std.specs.Prelude.{Option, None, Some}
 use Rattle.std.specs.Option.{option_map_or}
-use mathlib.Core.Path.{◌≡◌, refl, sym, ap, ◌∙◌}
+use mathlib.Core.Path.{◌≡◌, refl, ap, ◌∙◌}
 use mathlib.Core.List.{List, [], ◌++◌}
 use Prim.Native.Nat.{ℕ, ◌+◌, ◌*◌, ◌^◌, ◌<◌}
 use native.Mathlib.Omega.{arith}
-use lib.ListN.{length, get_or}
-use lib.Seq.{take_all}
+use lib.ListN.{length}
 use Rattle.sections.specs.Le.{bytes}
 use Rattle.vertices.specs.Runs.{numbers, run}
-use Rattle.vertices.proofs.RunLaws.{length_run, numbers-length, run-numbers}
-use Rattle.halls.specs.List.{record_bytes, indices_record}
+use Rattle.vertices.proofs.RunLaws.{length_run, numbers-length}
+use Rattle.halls.specs.List.{Indices, record_bytes, indices_record}
 use Rattle.halls.specs.Inner.View.{HeldIn, index_bytes, held_count, indices_in}
 use Rattle.halls.specs.declared.read.view.IndexItems.{IndexItems}
 use Rattle.halls.specs.declared.read.view.IndexView.{IndexView}
@@ -62,26 +61,17 @@ module _ (v : IndexView) (b : List ℕ) where
     pub long_by : HeldIn v b → length b ≡ v.count * index_bytes i.width
     long_by h = h.long ∙ rw e
 
-    -- indices of four bytes are written as they are
-    pub four_bytes : ((j : ℕ) → get_or b j 0 < 256) → i.width ≡ Four → HeldIn v b → b ≡ run 4 (indices_in v b).items
-    four_bytes low w h =
-        let n : length b ≡ v.count * 4 = long_by h ∙ ap (λ (k : IndexWidth). v.count * index_bytes k) w in
-        sym (ap (run 4) (items_by ∙ ap (λ (k : IndexWidth). numbers (index_bytes k) v.count b) w) ∙ run-numbers 4 v.count b low (omega arith) ∙ take_all (v.count * 4) b (omega arith))
-
   pub items_length_lem : length (indices_in v b).items ≡ held_count v
   unfolding indices_in
   items_length_lem = items_long v.count b v.items
 
-  pub held-length : length (run 4 (indices_in v b).items) ≡ held_count v * 4
-  held-length = length_run 4 (indices_in v b).items ∙ ap (λ k. k * 4) items_length_lem
-
   pub held-few : HeldIn v b → held_count v < 2 ^ 29
   held-few h = few_held v.count (length b) v.items h.long h.few
 
-  -- the parts that are put, one behind the other
-  pub index-parts : ((bytes 4 (4 + 4 * held_count v) ++ bytes 2 5) ++ bytes 4 v.count) ++ run 4 (indices_in v b).items ≡ indices_record (indices_in v b)
-  unfolding indices_record record_bytes bytes indices_in
-  index-parts =
-      let body : List ℕ = bytes 4 v.count ++ run 4 (indices_in v b).items in
-      let q : 4 + 4 * held_count v ≡ length body = omega (arith, held-length) in
-      ap (λ n. bytes 4 n ++ (bytes 2 5 ++ body)) q
+-- the parts that are put, one behind the other
+pub index-parts : (i : Indices) → ((bytes 4 (4 + 4 * length i.items) ++ bytes 2 5) ++ bytes 4 i.count) ++ run 4 i.items ≡ indices_record i
+unfolding indices_record record_bytes bytes
+index-parts i =
+    let body : List ℕ = bytes 4 i.count ++ run 4 i.items in
+    let q : 4 + 4 * length i.items ≡ length body = omega (arith, length_run 4 i.items) in
+    ap (λ n. bytes 4 n ++ (bytes 2 5 ++ body)) q

@@ -1,13 +1,11 @@
 -- The loop over the model pointers: what was read so far, and what is left to read.
 use mathlib.Core.Path.{◌≡◌, refl, sym, ap, ◌∙◌}
 use mathlib.Core.List.{List, [], ◌∷◌, ◌++◌, append-nil}
-use Prim.Native.Nat.{ℕ, suc, ◌+◌, ◌*◌, ◌^◌, ◌≤◌, ◌<◌}
-use native.Mathlib.Numerals.{add-one}
+use Prim.Native.Nat.{ℕ, ◌+◌, ◌*◌, ◌^◌, ◌≤◌}
 use native.Mathlib.Omega.{arith}
 use borrow.Author.Tests.{eq-eqb, ne_eqb}
 use lib.Dec.{eqb}
-use lib.ListN.{length, drop, get_or, length-append, drop_of_length-le}
-use lib.Seq.{drop-cons}
+use lib.ListN.{length, length-append}
 use Rattle.sections.specs.Address.{Sections, resolved}
 use Rattle.halls.specs.List.{Model, each, write_model, write}
 use Rattle.halls.specs.Blocks.{ModelBlock, model_block}
@@ -44,41 +42,45 @@ models-NotZero s before (p ∷ ps) =
     (need-NotZero 3 (resolved s p 0x30) refl (λ b. then-NotZero (Block-NotZero s before (model_block b)) (λ m.
     then-NotZero (models-NotZero s (before + length m.geometries) ps) (λ ms. read-NotZero))))
 
-pub record MeasuringModels (s : Sections) (ps : List ℕ) (i total count : ℕ) : Type 0 where
+pub record MeasuringModels (s : Sections) (all left : List ℕ) (total count : ℕ) : Type 0 where
   pub done : List Model
-  pub low : i ≤ length ps
   pub total-is : total ≡ length (write done)
   pub count_is : count ≡ geometries_in done
-  pub bound : total ≤ count * 2 ^ 49 + i * 2 ^ 20
+  pub bound : total + length left * 2 ^ 20 ≤ count * 2 ^ 49 + length all * 2 ^ 20
   pub few : count ≤ 16384
-  pub whole : read_models s 0 ps ≡ prepend done (read_models s count (drop i ps))
+  pub whole : read_models s 0 all ≡ prepend done (read_models s count left)
 
-pub models-start : (s : Sections) (ps : List ℕ) → MeasuringModels s ps 0 0 0
+pub models-start : (s : Sections) (all : List ℕ) → MeasuringModels s all all 0 0
 unfolding each
-models-start s ps = record { done = []; low = omega arith; total-is = refl; count_is = refl; bound = omega arith; few = omega arith; whole = prepend-none (read_models s 0 ps) }
+models-start s all = record { done = []; total-is = refl; count_is = refl; bound = omega arith; few = omega arith; whole = prepend-none (read_models s 0 all) }
 
-module _ {s : Sections} {ps : List ℕ} {i total count : ℕ} (m : MeasuringModels s ps i total count) where
-  pub models-end : length ps ≤ i → read_models s 0 ps ≡ read m.done
+module _ {s : Sections} {all left : List ℕ} {total count : ℕ} (m : MeasuringModels s all left total count) where
+  pub models-end : left ≡ [] → measured_models (read_models s 0 all) ≡ Ok (record { «length» = total; count = count })
   unfolding read_models prepend
-  models-end h = m.whole ∙ rw (drop_of_length-le ps h) (ap read (append-nil m.done))
+  models-end none =
+      let ended : read_models s 0 all ≡ read m.done = m.whole ∙ rw none (ap read (append-nil m.done)) in
+      ap measured_models ended ∙ rw (← m.total-is, ← m.count_is)
 
-  module _ (more : i < length ps) where
-    next : drop i ps ≡ get_or ps i 0 ∷ drop (suc i) ps
-    next = drop-cons ps i 0 more
+  module _ (pointer : ℕ) (others : List ℕ) (next : left ≡ pointer ∷ others) where
+    shorter : length left ≡ 1 + length others
+    shorter = ap length next ∙ omega arith
 
-    pub models_null : get_or ps i 0 ≡ 0 → MeasuringModels s ps (i + 1) total count
+    -- what another model may come to
+    pub models_room : total + 2 ^ 20 ≤ count * 2 ^ 49 + length all * 2 ^ 20
+    models_room = omega (arith, m.bound, shorter)
+
+    pub models_null : pointer ≡ 0 → MeasuringModels s all others total count
     unfolding read_models
     models_null z = record {
       done = m.done;
-      low = omega arith;
       total-is = m.total-is;
       count_is = m.count_is;
-      bound = omega (arith, m.bound);
+      bound = omega (arith, m.bound, shorter);
       few = m.few;
-      whole = m.whole ∙ ap (prepend m.done) (rw (next, eq-eqb (get_or ps i 0) 0 z, add-one));
+      whole = m.whole ∙ ap (prepend m.done) (rw (next, eq-eqb pointer 0 z));
     }
 
-    module _ (pointer : ℕ) (at : get_or ps i 0 ≡ pointer) (set : pointer ≡ 0 → ⊥) where
+    module _ (set : pointer ≡ 0 → ⊥) where
       abbrev model_bytes : Model → ℕ
       model_bytes x = length (write_model x)
 
@@ -86,33 +88,31 @@ module _ {s : Sections} {ps : List ℕ} {i total count : ℕ} (m : MeasuringMode
       model_count x = length x.geometries
 
       abbrev onward : Model → Reading (List Model)
-      onward x = and_then (read_models s (count + length x.geometries) (drop (suc i) ps)) (λ ms. read (x ∷ ms))
+      onward x = and_then (read_models s (count + length x.geometries) others) (λ ms. read (x ∷ ms))
 
-      step : read_models s count (drop i ps) ≡ and_then (model_at s count pointer) onward
+      step : read_models s count left ≡ and_then (model_at s count pointer) onward
       unfolding read_models model_at
-      step = rw (next, at, ne_eqb pointer 0 set) (need-then 3 (resolved s pointer 0x30) (λ b. read_model s count (model_block b)) onward)
+      step = rw (next, ne_eqb pointer 0 set) (need-then 3 (resolved s pointer 0x30) (λ b. read_model s count (model_block b)) onward)
 
-      pub models_refused : (e : Refusal) → Err e ≡ measured_model (model_at s count pointer) → Err e ≡ measured_models (read_models s 0 ps)
+      pub models_refused : (e : Refusal) → Err e ≡ measured_model (model_at s count pointer) → Err e ≡ measured_models (read_models s 0 all)
       models_refused e same =
           refused_as model_bytes model_count (λ (ms : List Model). length (write ms)) geometries_in (model_at s count pointer) e (λ x. prepend m.done (onward x)) same
           ∙ ap measured_models (sym (prepend-then m.done (model_at s count pointer) onward) ∙ ap (prepend m.done) (sym step) ∙ sym m.whole)
 
       pub models-one : (v : Measured) → Ok v ≡ measured_model (model_at s count pointer) → v.«length» ≤ v.count * 2 ^ 49 + 2 ^ 20 → count + v.count ≤ 16384
-          → MeasuringModels s ps (i + 1) (total + v.«length») (count + v.count)
+          → MeasuringModels s all others (total + v.«length») (count + v.count)
       models-one v same small room =
           let a = read_as model_bytes model_count (model_at s count pointer) v same in
           let x : Model = a.value in
-          let onto : ℕ → ℕ → Reading (List Model) = λ k j. prepend (m.done ++ (x ∷ [])) (read_models s k (drop j ps)) in
+          let onto : ℕ → Reading (List Model) = λ k. prepend (m.done ++ (x ∷ [])) (read_models s k others) in
           record {
             done = m.done ++ (x ∷ []);
-            low = omega arith;
             total-is = rw (each_snoc write_model m.done x, length-append) (omega (arith, m.total-is, a.long));
             count_is = rw (geometries-snoc m.done x) (omega (arith, m.count_is, a.many));
-            bound = omega (arith, m.bound);
+            bound = omega (arith, m.bound, shorter);
             few = room;
             whole =
                 m.whole ∙ ap (prepend m.done) (step ∙ ap (λ (r : Reading Model). and_then r onward) a.is)
-                ∙ prepend-one m.done x (read_models s (count + length x.geometries) (drop (suc i) ps))
-                ∙ ap (λ k. onto (count + k) (suc i)) (sym a.many)
-                ∙ ap (onto (count + v.count)) (sym (add-one i));
+                ∙ prepend-one m.done x (read_models s (count + length x.geometries) others)
+                ∙ ap (λ k. onto (count + k)) (sym a.many);
           }

@@ -1,5 +1,5 @@
 -- A model behind a pointer: its lists, its refusals, and what its reading is made of.
-use Rattle.std.specs.Prelude.{None, Some, Result, Ok}
+use Rattle.std.specs.Prelude.{Option, None, Some, Result, Ok}
 use mathlib.Core.Path.{◌≡◌, refl, sym, ap, ◌∙◌}
 use mathlib.Core.List.{List, [], ◌∷◌}
 use Prim.Native.Nat.{ℕ, suc, ◌+◌, ◌*◌, ◌/◌, ◌^◌, ◌≤◌, ◌<◌}
@@ -22,18 +22,18 @@ use Rattle.halls.proofs.read.ReadingLaws.{NotZero, refused-NotZero, read-NotZero
 use Rattle.halls.proofs.read.ViewLaws.{Record-length}
 
 -- the lists of a block, from the fields that were read
-pub lists_of : (s : Sections) (raw : List ℕ) (count geometries mapping : ℕ) {pointers map : List ℕ} → count ≡ field 2 raw 0x10 → geometries ≡ field 8 raw 0x08 → mapping ≡ field 8 raw 0x20 → count < 65536
-    → pointers ≡ or_empty (list_bytes s 8 count geometries) → map ≡ or_empty (list_bytes s 2 count mapping) → ListsOf s (model_block raw) pointers map
+pub lists_of : (s : Sections) (raw : List ℕ) (count geometries mapping : ℕ) {pointers : Option (List ℕ)} {map : List ℕ} → count ≡ field 2 raw 0x10 → geometries ≡ field 8 raw 0x08 → mapping ≡ field 8 raw 0x20 → count < 65536
+    → pointers ≡ list_bytes s 8 count geometries → map ≡ or_empty (list_bytes s 2 count mapping) → ListsOf s (model_block raw) pointers map
 unfolding model_block
 lists_of s raw count geometries mapping e f g few p m = record { few = rw (← e) few; pointers_are = rw (← e, ← f) p; mapping-is = rw (← e, ← g) m }
 
-module _ (s : Sections) (b : ModelBlock) (pointers mapping : List ℕ) (l : ListsOf s b pointers mapping) where
+module _ (s : Sections) (b : ModelBlock) (pointers : Option (List ℕ)) (mapping : List ℕ) (l : ListsOf s b pointers mapping) where
   pub mapping-numbers : mapping_of s b ≡ whole_numbers 2 mapping
   unfolding mapping_of
   mapping-numbers = list-or_empty s 2 b.count b.mapping refl (omega arith) ∙ ap (whole_numbers 2) (sym l.mapping-is)
 
-  pub pointer-numbers : or_empty (list_at s 8 b.count b.geometries) ≡ whole_numbers 8 pointers
-  pointer-numbers = list-or_empty s 8 b.count b.geometries refl (omega arith) ∙ ap (whole_numbers 8) (sym l.pointers_are)
+  pub pointer-numbers : or_empty (list_at s 8 b.count b.geometries) ≡ whole_numbers 8 (or_empty pointers)
+  pointer-numbers = list-or_empty s 8 b.count b.geometries refl (omega arith) ∙ ap (λ (o : Option (List ℕ)). whole_numbers 8 (or_empty o)) (sym l.pointers_are)
 
   -- whole shader ids
   pub mapping-even : length mapping / 2 * 2 ≡ length mapping
@@ -42,7 +42,7 @@ module _ (s : Sections) (b : ModelBlock) (pointers mapping : List ℕ) (l : List
   pub mapping-few : length mapping ≤ 524280
   mapping-few = rw l.mapping-is (list_short s 2 b.count b.mapping l.few (omega arith))
 
-  pub pointers_few : length pointers ≤ 524280
+  pub pointers_few : length (or_empty pointers) ≤ 524280
   pointers_few = rw l.pointers_are (list_short s 8 b.count b.geometries l.few (omega arith))
 
 -- no refusal has the number 0
@@ -63,32 +63,26 @@ module _ (s : Sections) (before pointer : ℕ) where
   model-unresolved e = rw e
 
   module _ (raw : List ℕ) (is : resolved s pointer 0x30 ≡ Some raw) where
-    pub model-no_list : (count geometries : ℕ) → count ≡ field 2 raw 0x10 → geometries ≡ field 8 raw 0x08 → list_bytes s 8 count geometries ≡ None → model_at s before pointer ≡ refused 4
-    unfolding model_at read_model model_block
-    model-no_list count geometries e f h =
-        rw is (list_absent s 8 (field 2 raw 0x10) (field 8 raw 0x08) refl (omega arith) 4 _ (rw (← e, ← f) h))
+    pub model-no_list : {mapping : List ℕ} → ListsOf s (model_block raw) None mapping → model_at s before pointer ≡ refused 4
+    unfolding model_at read_model
+    model-no_list l = rw is (list_absent s 8 (model_block raw).count (model_block raw).geometries refl (omega arith) 4 _ (sym l.pointers_are))
 
-    module _ (pointers mapping : List ℕ) (l : ListsOf s (model_block raw) pointers mapping) (count geometries : ℕ) (e : count ≡ field 2 raw 0x10) (f : geometries ≡ field 8 raw 0x08)
-        (there : list_bytes s 8 count geometries ≡ Some pointers) where
+    module _ (pointers mapping : List ℕ) (l : ListsOf s (model_block raw) (Some pointers) mapping) where
       abbrev pub inside : Reading (List Geometry)
       inside = read_geometries s before (whole_numbers 2 mapping) (whole_numbers 8 pointers)
 
       abbrev model_with : List Geometry → Model
       model_with gs = record { binding = (model_block raw).binding; mask = (model_block raw).mask; mapping = whole_numbers 2 mapping; geometries = gs }
 
-      found : list_bytes s 8 (model_block raw).count (model_block raw).geometries ≡ Some pointers
-      unfolding model_block
-      found = rw (← e, ← f) there
-
       as_read : model_at s before pointer ≡ and_then inside (λ gs. read (model_with gs))
       unfolding model_at read_model
       as_read =
           let b : ModelBlock = model_block raw in
-          rw (is, mapping-numbers s b pointers mapping l) (list_found s 8 b.count b.geometries refl (omega arith) 4 _ pointers found)
+          rw (is, mapping-numbers s b (Some pointers) mapping l) (list_found s 8 b.count b.geometries refl (omega arith) 4 _ pointers (sym l.pointers_are))
 
       length-with : (gs : List Geometry) → length (write_model (model_with gs)) ≡ 12 + length mapping + length (write_geometries gs)
       unfolding write_model model_record
-      length-with gs = simp (length-append, Record-length, length-bytes, length_run, numbers-length) (omega (arith, mapping-even s (model_block raw) pointers mapping l))
+      length-with gs = simp (length-append, Record-length, length-bytes, length_run, numbers-length) (omega (arith, mapping-even s (model_block raw) (Some pointers) mapping l))
 
       by_cases : (r : Reading (List Geometry)) → with_record (length mapping) (measured_geometries r) ≡ measured_model (and_then r (λ gs. read (model_with gs)))
       by_cases (refused check) = refl

@@ -1,5 +1,9 @@
 -- Readings put together, and what a measure tells of one.
 use Rattle.std.specs.Prelude.{Option, None, Some, Result, Ok, Err}
+use denote.Bor.{Bor}
+use Rattle.std.specs.Option.{ok_or, option_copied}
+use Rattle.std.specs.Result.{result_ok, result_err}
+use Rattle.std.proofs.lemmas.Option.{same_Some}
 use mathlib.Core.Path.{◌≡◌, refl, sym, ap, ◌∙◌}
 use mathlib.Core.Bool.{Bool, true, false, cond}
 use mathlib.Core.List.{List, [], ◌∷◌, ◌++◌, append_assoc}
@@ -132,3 +136,24 @@ module _ {A : Type 0} (bytes_of count_of : A → ℕ) where
       let c : e.check ≡ check = ap (λ (x : Refusal). x.check) w in
       record { is = ap refused (sym c); needs = w ∙ ap (λ (k : ℕ). record { check = k; needed = 0 }) (sym c) }
   refusal_is (read x) e q = let z : ◌≡◌ {A = ℕ} 0 1 = cc in absurd (omega arith)
+
+-- ---- what is there, or a refusal
+
+module _ {A E : Type 0} where
+  pub ok_or_some : (o : Option A) (e : E) (x : A) → ok_or o e ≡ Ok x → o ≡ Some x
+  ok_or_some None e x q = ap result_ok q
+  ok_or_some (Some y) e x q = ap result_ok q
+
+  pub ok_or_none : (o : Option A) (e x : E) → ok_or o e ≡ Err x → (o ≡ None) × (e ≡ x)
+  ok_or_none None e x q = (refl, same_Some _ _ (ap result_err q))
+  ok_or_none (Some y) e x q = let z : ◌≡◌ {A = ℕ} 0 1 = cc in absurd (omega arith)
+
+-- the same of bytes
+module _ {E : Type 0} (o : Option (Bor (List ℕ))) (e : E) {r : Option (List ℕ)} (is : option_copied o ≡ r) where
+  pub bytes_found : (x : Bor (List ℕ)) → ok_or o e ≡ Ok x → r ≡ Some x.now
+  bytes_found x q = sym is ∙ ap option_copied (ok_or_some o e x q)
+
+  pub bytes_absent : (x : E) → ok_or o e ≡ Err x → (r ≡ None) × (x ≡ e)
+  bytes_absent x q =
+      let none = ok_or_none o e x q in
+      (sym is ∙ ap option_copied none.0, sym none.1)

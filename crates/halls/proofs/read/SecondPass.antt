@@ -12,7 +12,7 @@ use Rattle.sections.proofs.AddressLaws.{located-zero}
 use Rattle.halls.specs.List.{Geometry, Model}
 use Rattle.halls.specs.Blocks.{ModelBlock, model_block, geometry_block}
 use Rattle.halls.specs.Reading.{refused, read, need, and_then, first, rest, or_empty, list_at, mapping_of, geometry_of, read_geometries, read_model, read_models}
-use Rattle.halls.specs.Inner.View.{geometry_in, geometries_at, model_of, model_in, models_at}
+use Rattle.halls.specs.Inner.View.{geometry_in, geometries_behind, geometries_at, model_of, model_in, models_at}
 use Rattle.halls.proofs.read.ReadingLaws.{read-injective, not-read, need-read, then-read}
 
 null-unresolved : (s : Sections) (p n : ℕ) → p ≡ 0 → resolved s p n ≡ None
@@ -38,7 +38,7 @@ module _ (s : Sections) (p : ℕ) (ps : List ℕ) (ih : (before : ℕ) (map : Li
       ∙ ap (λ (xs : List Geometry). geometry n.found ∷ xs) (ih (suc before) (rest map) t.value t.is) ∙ read-injective t.onward
 
 pub geometries-read : (s : Sections) (ps : List ℕ) (before : ℕ) (map : List ℕ) (gs : List Geometry) → read_geometries s before map ps ≡ read gs → geometries_at s map ps ≡ gs
-unfolding read_geometries geometries_at
+unfolding read_geometries geometries_behind
 geometries-read s [] before map gs e = read-injective e
 geometries-read s (p ∷ ps) before map gs e = geometry-step s p ps (geometries-read s ps) before map gs (eqb p 0) (ltb before 16384) refl e
 

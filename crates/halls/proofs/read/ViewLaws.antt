@@ -167,19 +167,27 @@ buffer_records-length s (Some b) h =
     length-append (stored_record b.declaration) (vertices_record (vertices_of s b))
     ∙ (let p = declaration-part b.declaration in let q = vertices_record-length (vertices_of s b) in omega (arith, h.0))
 
-index_record-length : (s : Sections) (f : Option IndexView) → length (index_record s f) ≡ indices_length f
+pub index_record-length : (s : Sections) (f : Option IndexView) → length (index_record s f) ≡ indices_length f
 index_record-length s None = refl
 index_record-length s (Some v) = rw (indices_record-length, items_length_lem v _)
 
-pub view_written : (s : Sections) (v : GeometryView) (out : List ℕ) (at : ℕ) {next : ℕ} {one two t : List ℕ} → BufferHeld s v.buffer → one ≡ overwrite out at (geometry_record (numbers_seen v))
+pub view_records-length : (s : Sections) (v : GeometryView) → BufferHeld s v.buffer → length (view_records s v) ≡ view_length v
+unfolding view_length
+view_records-length s v h =
+    length-append (geometry_record (numbers_seen v.numbers)) (buffer_records s v.buffer ++ index_record s v.indices)
+    ∙ (let p = geometry_record-length (numbers_seen v.numbers) in
+    let q = length-append (buffer_records s v.buffer) (index_record s v.indices) in
+    omega (arith, p, q, buffer_records-length s v.buffer h, index_record-length s v.indices))
+
+pub view_written : (s : Sections) (v : GeometryView) (out : List ℕ) (at : ℕ) {next : ℕ} {one two t : List ℕ} → BufferHeld s v.buffer → one ≡ overwrite out at (geometry_record (numbers_seen v.numbers))
     → two ≡ overwrite one (at + 20) (buffer_records s v.buffer) → next ≡ at + 20 + buffer_length v.buffer → t ≡ overwrite two next (index_record s v.indices)
     → at + view_length v ≤ length out → t ≡ overwrite out at (view_records s v)
 unfolding view_length
 view_written s v out at {next} h e f n g fit =
-    let head : List ℕ = geometry_record (numbers_seen v) in
+    let head : List ℕ = geometry_record (numbers_seen v.numbers) in
     let middle : List ℕ = buffer_records s v.buffer in
     let last : List ℕ = index_record s v.indices in
-    let l : length head ≡ 20 = geometry_record-length (numbers_seen v) in
+    let l : length head ≡ 20 = geometry_record-length (numbers_seen v.numbers) in
     let m : length middle ≡ buffer_length v.buffer = buffer_records-length s v.buffer h in
     let k : length last ≡ indices_length v.indices = index_record-length s v.indices in
     let both = f ∙ ap (λ (x : List ℕ). overwrite x (at + 20) middle) e ∙ overwrite-then out at 20 head middle l (omega arith) in

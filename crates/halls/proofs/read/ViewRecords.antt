@@ -1,9 +1,9 @@
 -- A view of resolved blocks: its records are those of the geometry that is read, and its places hold what it says.
 use Rattle.std.specs.Prelude.{Option, None, Some, option_map}
 use Rattle.std.specs.Option.{option_or}
-use mathlib.Core.Path.{◌≡◌, refl, sym, ap, subst, ◌∙◌}
+use mathlib.Core.Path.{◌≡◌, refl, sym, ap, ◌∙◌}
 use mathlib.Core.Bool.{Bool, true, false, cond}
-use mathlib.Core.List.{List, ◌++◌, append_assoc, append-nil}
+use mathlib.Core.List.{List, ◌++◌, append_assoc}
 use Prim.{tt}
 use Prim.Native.Nat.{ℕ, ◌+◌, ◌*◌, ◌≤◌}
 use native.Mathlib.Omega.{arith}
@@ -18,34 +18,49 @@ use Rattle.sections.proofs.AddressLaws.{HasBytes, FindsBytes, located-found}
 use Rattle.vertices.specs.Buffer.{vertex_buffer_at}
 use Rattle.vertices.specs.declared.buffer.VertexBuffer.{VertexBuffer}
 use Rattle.vertices.proofs.BufferLaws.{FoundData, buffer_data}
-use Rattle.halls.specs.List.{each, optional, geometry_record, declaration_record, vertices_record, indices_record, write_geometry, write_geometries}
-use Rattle.halls.specs.Blocks.{GeometryBlock, geometry_block, IndexBlock, index_block}
-use Rattle.halls.specs.Reading.{or_empty, stored_in, vertices_of, indices_of, geometry_with, geometry_of}
-use Rattle.halls.specs.Inner.View.{ViewHeld, BufferHeld, IndicesHeld, HeldIn, index_bytes, bytes_seen, view_at, sized_view, block_view, geometry_view, view_with, buffer_records, index_record, index_view_in, view_records, numbers_seen, view_length, geometry_in}
+use Rattle.halls.specs.List.{Geometry, optional, geometry_record, declaration_record, vertices_record, indices_record, write_geometry}
+use Rattle.halls.specs.Blocks.{GeometryBlock, IndexBlock, index_block}
+use Rattle.halls.specs.Reading.{geometry_of, or_empty, stored_in, vertices_of}
+use Rattle.halls.specs.Inner.View.{ViewHeld, BufferHeld, IndicesHeld, HeldIn, index_bytes, bytes_seen, indices_seen, view_at, sized_view, block_view, geometry_view, view_with, buffer_records, index_record, index_view_in, view_records, numbers_seen, view_length}
 use Rattle.halls.specs.declared.read.view.GeometryView.{GeometryView}
 use Rattle.halls.specs.Inner.Small.{Small}
+use Rattle.halls.specs.Inner.Taking.{geometry_shown}
+use Rattle.halls.specs.declared.read.view.IndexView.{IndexView}
 use Rattle.halls.specs.declared.read.view.IndexItems.{IndexItems}
 use Rattle.halls.specs.declared.read.view.IndexWidth.{IndexWidth}
 use Rattle.halls.specs.declared.read.view.IndexWidth.TheVariants.{Two, Four}
-use Rattle.halls.proofs.read.ViewLaws.{block_view-is, view_length_lem}
+use Rattle.halls.proofs.edit.ShownLaws.{shown-is}
+use Rattle.halls.proofs.read.ViewLaws.{view_records-length}
 
 buffer_records_lem : (s : Sections) (o : Option VertexBuffer) → buffer_records s o ≡ optional declaration_record (stored_in o) ++ optional vertices_record (option_map (vertices_of s) o)
 buffer_records_lem s None = refl
 buffer_records_lem s (Some b) = refl
 
-index_record_lem : (s : Sections) (o : Option (List ℕ)) → index_record s (index_view_in s o) ≡ optional indices_record (option_map (λ raw. indices_of s (index_block raw)) o)
+pub index_record_lem : (s : Sections) (o : Option IndexView) → index_record s o ≡ optional indices_record (option_map (indices_seen s) o)
 index_record_lem s None = refl
-index_record_lem s (Some raw) = ap indices_record (sym (block_view-is s (index_block raw)))
+index_record_lem s (Some v) = refl
 
+-- the records of a view are those of the geometry that it shows
+records_of_view : (s : Sections) (v : GeometryView) → view_records s v ≡ write_geometry (geometry_shown s v)
+unfolding geometry_shown write_geometry geometry_record
+records_of_view s v =
+    let head : List ℕ = geometry_record (numbers_seen v.numbers) in
+    let declared : List ℕ = optional declaration_record (stored_in v.buffer) in
+    let found : List ℕ = optional vertices_record (option_map (vertices_of s) v.buffer) in
+    ap (λ (x : List ℕ). head ++ (x ++ index_record s v.indices)) (buffer_records_lem s v.buffer)
+    ∙ ap (λ (x : List ℕ). head ++ ((declared ++ found) ++ x)) (index_record_lem s v.indices)
+    ∙ ap (λ (x : List ℕ). head ++ x) (append_assoc declared found _)
+
+-- of the view of a block, those of the geometry that is read
 pub view_records_lem : (s : Sections) (shader : ℕ) (b : GeometryBlock) → view_records s (geometry_view s shader b) ≡ write_geometry (geometry_of s shader b)
-unfolding geometry_view view_with geometry_of geometry_with write_geometry geometry_record
-view_records_lem s shader b =
-    let o : Option VertexBuffer = vertex_buffer_at s b.vertex_block b.inline b.vertices b.stride in
-    let i : Option (List ℕ) = resolved s b.index_block 0x60 in
-    let head : List ℕ = geometry_record (numbers_seen (geometry_view s shader b)) in
-    ap (λ (x : List ℕ). head ++ (x ++ index_record s (index_view_in s i))) (buffer_records_lem s o)
-    ∙ ap (λ (x : List ℕ). head ++ ((optional declaration_record (stored_in o) ++ optional vertices_record (option_map (vertices_of s) o)) ++ x)) (index_record_lem s i)
-    ∙ ap (λ (x : List ℕ). head ++ x) (append_assoc (optional declaration_record (stored_in o)) (optional vertices_record (option_map (vertices_of s) o)) _)
+view_records_lem s shader b = records_of_view s (geometry_view s shader b) ∙ ap write_geometry (shown-is s shader b)
+
+module _ (s : Sections) (v : GeometryView) {g : Geometry} (is : geometry_shown s v ≡ g) where
+  pub shown_records : view_records s v ≡ write_geometry g
+  shown_records = records_of_view s v ∙ ap write_geometry is
+
+  pub shown_length : BufferHeld s v.buffer → length (write_geometry g) ≡ view_length v
+  shown_length h = ap length (sym shown_records) ∙ view_records-length s v h
 
 -- ---- places in small sections
 
@@ -125,18 +140,3 @@ ViewHeld_lem s m shader b = record {
       buffer_held s (vertex_buffer_at s b.vertex_block b.inline b.vertices b.stride) m (buffer_data s b.vertex_block b.inline b.vertices b.stride);
   indices = index-held s m (resolved s b.index_block 0x60);
 }
-
--- ---- the view of the block behind a pointer
-
-module _ (s : Sections) (shader pointer : ℕ) (raw : List ℕ) (e : resolved s pointer 0x98 ≡ Some raw) (v : GeometryView) (q : v ≡ geometry_view s shader (geometry_block raw)) where
-  pub seen-records : view_records s v ≡ write_geometries (geometry_in s shader (resolved s pointer 0x98))
-  unfolding each
-  seen-records =
-      ap (view_records s) q ∙ view_records_lem s shader (geometry_block raw) ∙ sym (append-nil (write_geometry (geometry_of s shader (geometry_block raw))))
-      ∙ ap (λ (o : Option (List ℕ)). write_geometries (geometry_in s shader o)) (sym e)
-
-  pub seen-length : view_length v ≡ length (write_geometries (geometry_in s shader (resolved s pointer 0x98)))
-  seen-length = ap view_length q ∙ view_length_lem s shader (geometry_block raw) ∙ ap length (sym (view_records_lem s shader (geometry_block raw)) ∙ ap (view_records s) (sym q) ∙ seen-records)
-
-  pub seen-held : Small s → ViewHeld s v
-  seen-held m = subst (ViewHeld s) (sym q) (ViewHeld_lem s m shader (geometry_block raw))

@@ -1,18 +1,17 @@
 -- How the check finds its verdict in one pass: the lowest rank of a check that a geometry fails, and whether a model or a geometry stands at the front of some bytes.
 -- Private contracts speak of this; `JudgingLaws` and `WalkLaws` tie it to the verdict.
-use Rattle.std.specs.Prelude.{◌≡◌, Bool, cond, ◌&&◌, List, ℕ, ◌+◌, ◌*◌, eqb, leb, ltb, length}
+use Rattle.std.specs.Prelude.{◌≡◌, Bool, cond, ◌&&◌, List, ℕ, ◌+◌, ◌*◌, ◌%◌, eqb, leb, ltb, length}
 use Rattle.sections.specs.Edit.{fits}
 use Rattle.sections.specs.Le.{field}
 use Rattle.vertices.specs.Declaration.{component_of, total_size}
 use Rattle.vertices.specs.declared.declaration.VertexDeclaration.{VertexDeclaration}
-use Rattle.halls.specs.Checks.{vertex_bytes_exact, strides_agree, has_size, components_inside, vertex_counts_agree, index_counts_agree, indices_in_range, triangles_of, has_three_vertices, triangles_distinct}
+use Rattle.halls.specs.Checks.{vertex_bytes_exact, strides_agree, has_size, components_inside, vertex_counts_agree, index_counts_agree}
+use Rattle.halls.specs.Checks.{indices_in_range, triangles_of, has_three_vertices, triangles_distinct}
 use Rattle.halls.specs.Every.{every}
 use Rattle.halls.specs.Fronts.{entries_at, content_at, held_at}
-use Rattle.halls.specs.Calls.{Given}
 use Rattle.halls.specs.Hall.{FullGeometry}
 use Rattle.halls.specs.Inner.Order.{passed}
 use Rattle.halls.specs.declared.check.geometry.GeometryHead.{GeometryHead}
-use Rattle.halls.specs.declared.edit.add_geometry.GivenGeometry.{GivenGeometry}
 
 -- ---- one geometry
 
@@ -28,16 +27,16 @@ indices_lowest g = cond (indices_in_range g) (cond (triangles_distinct g) passed
 unfoldable pub indices_lowest_of : ℕ → List ℕ → ℕ
 indices_lowest_of limit xs = cond (every (λ (i : ℕ). ltb i limit) xs) (cond (every has_three_vertices (triangles_of xs)) passed 27) 18
 
+-- and of check 17 where a caller lends them
+abbrev pub lent_lowest : ℕ → List ℕ → ℕ
+lent_lowest limit xs = cond (eqb (length xs % 3) 0 && leb 3 (length xs)) (indices_lowest_of limit xs) 17
+
 unfoldable pub lowest_of : FullGeometry → ℕ
 lowest_of g = head_lowest g (indices_lowest g)
 
 -- check 15 by declaration and stride
 unfoldable pub inside_stride : VertexDeclaration → ℕ → Bool
 inside_stride d stride = has_size (component_of d 0) && leb (total_size d) stride
-
--- a geometry as a caller gives it
-abbrev pub given_in : GivenGeometry → Given
-given_in g = record { shader = g.shader; declaration = g.declaration; stride = g.stride; count = g.count; content = g.content.now; indices = g.indices.now }
 
 -- with check 11, where the vertex bytes are given
 unfoldable pub given_lowest : FullGeometry → ℕ
@@ -46,11 +45,13 @@ given_lowest g = cond (vertex_bytes_exact g) (lowest_of g) 11
 -- its numbers, without vertex bytes and indices
 abbrev pub head_of : FullGeometry → GeometryHead
 head_of g = record {
-  shader = g.shader;
-  index_count = g.index_count;
-  triangle_count = g.triangle_count;
-  vertex_count = g.vertex_count;
-  stride = g.stride;
+  numbers = record {
+    shader = g.shader;
+    index_count = g.index_count;
+    triangle_count = g.triangle_count;
+    vertex_count = g.vertex_count;
+    stride = g.stride;
+  };
   declaration = g.declaration;
   layout = g.vertices.layout;
   vertices_stride = g.vertices.stride;

@@ -1,11 +1,12 @@
 -- What the first pass answers: a refusal's number, or the bytes that will be written and the geometries among them. (Private contracts.)
 use Rattle.std.specs.Prelude.{Option, Some, option_map, Result, Ok, Err}
-use Rattle.std.specs.Prelude.{cond, List, [], ◌∷◌, ℕ, ◌+◌, ◌*◌, ◌/◌, eqb, length}
+use Rattle.std.specs.Prelude.{cond, List, [], ◌∷◌, map, ℕ, ◌+◌, ◌*◌, ◌/◌, eqb, length}
 use Rattle.vertices.specs.Runs.{numbers}
 use Rattle.sections.specs.Address.{Sections, resolved}
 use Rattle.halls.specs.List.{Geometry, Model, write_geometry, write_geometries, write_model, write}
 use Rattle.halls.specs.Blocks.{geometry_block, model_block}
-use Rattle.halls.specs.Reading.{Reading, refused, read, need, geometry_of, read_model}
+use Rattle.halls.specs.Reading.{Reading, refused, read, need, geometry_of, first, rest, read_geometries, read_model}
+use Rattle.halls.specs.declared.read.entries.Entry.{Entry}
 use Rattle.halls.specs.declared.read.measure.Measured.{Measured}
 use Rattle.halls.specs.declared.answer.Refusal.{Refusal}
 
@@ -16,6 +17,14 @@ list_bytes s width count pointer = cond (eqb count 0) (Some []) (cond (eqb point
 -- the numbers in some bytes
 abbrev pub whole_numbers : ℕ → List ℕ → List ℕ
 whole_numbers width b = numbers width (length b / width) b
+
+-- pointers, each with the mapping's entry at its position, 0 if absent
+abbrev pub entries_of : List ℕ → List ℕ → List Entry
+entries_of mapping [] = []
+entries_of mapping (p ∷ ps) = record { shader = first mapping; pointer = p } ∷ entries_of (rest mapping) ps
+
+abbrev pub read_entries : Sections → ℕ → List Entry → Reading (List Geometry)
+read_entries s before es = read_geometries s before (map (λ (e : Entry). e.shader) es) (map (λ (e : Entry). e.pointer) es)
 
 -- the bytes of the geometry behind a pointer, if its block resolves
 unfoldable pub length_at : Sections → ℕ → ℕ → Option ℕ

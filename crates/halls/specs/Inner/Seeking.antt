@@ -1,9 +1,12 @@
 -- How the finder seeks a record, from the place of the check's pass that is nearest. Private contracts speak of this; `PlaceLaws` ties it to the places in a hall.
-use Rattle.std.specs.Prelude.{Option, None, Some, unwrap_or}
-use Rattle.std.specs.Prelude.{◌≡◌, cond, ◌&&◌, List, [], ◌∷◌, ℕ, ◌+◌, ◌-◌, ◌≤◌, ◌<◌, min, eqb, leb, length, drop}
+use Rattle.std.specs.Prelude.{Option, None, Some, unwrap_or, Result, MatchResult}
+use Rattle.std.specs.Prelude.{◌≡◌, cond, ◌&&◌, List, [], ◌∷◌, ℕ, ◌+◌, ◌-◌, ◌≤◌, ◌<◌, min, eqb, leb, length, take, drop}
 use Rattle.sections.specs.Le.{field}
 use Rattle.halls.specs.Parsing.{models_in}
 use Rattle.halls.specs.Records.{Record, records}
+use Rattle.halls.specs.Places.{geometry_place}
+use Rattle.halls.specs.declared.answer.Refusal.{Refusal}
+use Rattle.halls.specs.declared.check.find.GeometryPlace.{GeometryPlace}
 use Rattle.halls.specs.declared.check.pass.Mark.{Mark}
 
 -- of records that begin at `at`, the place of the one of this kind with `skip` of its kind before it; a model's record ends the search for another kind
@@ -13,9 +16,9 @@ place_of kind skip at (r ∷ rs) =
     cond (eqb r.kind kind) (cond (eqb skip 0) (Some at) (place_of kind (skip - 1) (at + 6 + length r.body) rs))
     (cond (eqb r.kind 1) None (place_of kind skip (at + 6 + length r.body) rs))
 
--- from the record on that begins at `at`; the end of the bytes where there is none
-unfoldable pub sought : List ℕ → ℕ → ℕ → ℕ → ℕ
-sought s at kind skip = unwrap_or (place_of kind skip at (records (drop at s))) (length s)
+-- from the record on that begins at `at`
+unfoldable pub sought : List ℕ → ℕ → ℕ → ℕ → Option ℕ
+sought s at kind skip = place_of kind skip at (records (drop at s))
 
 -- ---- a place that a pass has reached
 
@@ -23,7 +26,7 @@ sought s at kind skip = unwrap_or (place_of kind skip at (records (drop at s))) 
 pub record Marked (s : List ℕ) (p : Mark) : Type 0 where
   pub within : p.at ≤ length s
   pub models-behind : (k : ℕ) → sought s 0 1 (p.models + k) ≡ sought s p.at 1 k
-  pub model_is : 0 < p.models → p.model ≡ sought s 0 1 (p.models - 1)
+  pub model_is : 0 < p.models → Some p.model ≡ sought s 0 1 (p.models - 1)
   pub geometries-behind : 0 < p.models → (k : ℕ) → sought s (p.model + 6 + field 4 s p.model) 2 (p.own + k) ≡ sought s p.at 2 k
 
 -- the later of two places, unless it is behind the geometry of number g of its model or behind the m-th model
@@ -46,4 +49,12 @@ last = 18446744073709551615
 
 -- where the model ends whose record begins at this place: at the next model's record, or with the bytes
 unfoldable pub model_end : List ℕ → ℕ → ℕ
-model_end s place = sought s (place + 6 + field 4 s place) 1 0
+model_end s place = unwrap_or (sought s (place + 6 + field 4 s place) 1 0) (length s)
+
+-- ---- what a call is told
+
+-- the places of geometry g of model m in the first n bytes of a buffer, or the refusal by check 21
+abbrev pub Placed : List ℕ → ℕ → ℕ → ℕ → Result GeometryPlace Refusal → Type 0
+Placed b n m g r =
+    let there = geometry_place (models_in (records (take n b))) m g in
+    MatchResult r (λ p. there ≡ Some p) (λ e. (there ≡ None) × (e ≡ record { check = 21; needed = 0 }))

@@ -8,15 +8,14 @@ use Rattle.halls.specs.Calls.{taken_geometry}
 use Rattle.halls.specs.Hall.{FullGeometry, listed_geometry}
 use Rattle.halls.specs.Inner.Judging.{lowest_of}
 use Rattle.halls.specs.Inner.Order.{passed}
-use Rattle.halls.specs.List.{Vertices, Indices, Geometry, Model, optional, each, record_bytes, geometry_record, declaration_record, vertices_record, indices_record, write_geometry}
+use Rattle.halls.specs.List.{Vertices, Indices, Geometry, Model, optional, each, record_bytes, write_geometry}
 use Rattle.sections.specs.Le.{bytes}
 use Rattle.vertices.specs.Runs.{run}
 use Rattle.vertices.specs.Buffer.{or_position_only}
 use Rattle.vertices.specs.declared.buffer.VertexBuffer.{VertexBuffer}
 use Rattle.halls.specs.Reading.{stored_in, vertices_of}
-use Rattle.halls.specs.Inner.View.{indices_in, indices_seen, held_count, numbers_seen}
+use Rattle.halls.specs.Inner.View.{indices_seen, held_count}
 use Rattle.halls.specs.Inner.Walk.{model_units, geometry_units}
-use Rattle.halls.specs.declared.check.geometry.GeometryHead.{GeometryHead}
 use Rattle.halls.specs.declared.edit.judge_read.Taken.{Taken}
 use Rattle.halls.specs.declared.read.view.GeometryView.{GeometryView}
 use Rattle.halls.specs.declared.read.view.IndexView.{IndexView}
@@ -28,11 +27,11 @@ indices_shown s v = option_map (indices_seen s) v
 
 unfoldable pub geometry_shown : Sections → GeometryView → Geometry
 geometry_shown s v = record {
-  shader = v.shader;
-  index_count = v.index_count;
-  triangle_count = v.triangle_count;
-  vertex_count = v.vertex_count;
-  stride = v.stride;
+  shader = v.numbers.shader;
+  index_count = v.numbers.index_count;
+  triangle_count = v.numbers.triangle_count;
+  vertex_count = v.numbers.vertex_count;
+  stride = v.numbers.stride;
   declaration = stored_in v.buffer;
   vertices = option_map (vertices_of s) v.buffer;
   indices = indices_shown s v.indices;
@@ -94,16 +93,12 @@ model_taken m = together (record_taken (length m.geometries)) (all_taken geometr
 unfoldable pub geometry_bytes : Geometry → List ℕ
 geometry_bytes g = optional (λ (f : FullGeometry). write_geometry (listed_geometry f)) (as_halls g)
 
+abbrev pub shader_bytes : Geometry → List ℕ
+shader_bytes g = bytes 2 g.shader
+
 unfoldable pub model_bytes : Model → List ℕ
 model_bytes m =
     record_bytes 1 (bytes 4 m.binding ++ (bytes 2 m.mask ++ run 2 (map (λ (g : Geometry). g.shader) m.geometries))) ++ each geometry_bytes m.geometries
-
--- the four records of what a view shows, where these are its buffer, its indices and their bytes
-unfoldable pub records_shown : GeometryView → VertexBuffer → List ℕ → IndexView → List ℕ → List ℕ
-records_shown view b content v raw =
-    geometry_record (numbers_seen view)
-    ++ (declaration_record (or_position_only b.declaration b.vertex_stride)
-    ++ (vertices_record (record { layout = 0; stride = b.vertex_stride; count = b.vertex_count; content = content }) ++ indices_record (indices_in v raw)))
 
 -- ---- the header at an address; where it does not resolve, that of an empty list
 
@@ -125,32 +120,16 @@ held_seen None = 0
 held_seen (Some v) = held_count v
 
 -- the geometry of a view with both parts, as a hall's
-unfoldable pub full_shown : Sections → GeometryView → VertexBuffer → IndexView → FullGeometry
-full_shown s v b i = record {
-  shader = v.shader;
-  index_count = v.index_count;
-  triangle_count = v.triangle_count;
-  vertex_count = v.vertex_count;
-  stride = v.stride;
+abbrev pub full_shown : GeometryView → VertexBuffer → List ℕ → Indices → FullGeometry
+full_shown v b content i = record {
+  shader = v.numbers.shader;
+  index_count = v.numbers.index_count;
+  triangle_count = v.numbers.triangle_count;
+  vertex_count = v.numbers.vertex_count;
+  stride = v.numbers.stride;
   declaration = or_position_only b.declaration b.vertex_stride;
-  vertices = record { layout = 0; stride = b.vertex_stride; count = b.vertex_count; content = (vertices_of s b).content };
-  indices = indices_seen s i;
-}
-
--- its numbers
-abbrev pub head_seen : GeometryView → VertexBuffer → IndexView → GeometryHead
-head_seen v b i = record {
-  shader = v.shader;
-  index_count = v.index_count;
-  triangle_count = v.triangle_count;
-  vertex_count = v.vertex_count;
-  stride = v.stride;
-  declaration = or_position_only b.declaration b.vertex_stride;
-  layout = 0;
-  vertices_stride = b.vertex_stride;
-  vertices_count = b.vertex_count;
-  indices_count = i.count;
-  held = held_count i;
+  vertices = record { layout = 0; stride = b.vertex_stride; count = b.vertex_count; content = content };
+  indices = i;
 }
 
 -- sums that fit their fields

@@ -9,8 +9,10 @@ use Rattle.vertices.specs.declared.declaration.VertexDeclaration.{VertexDeclarat
 use Rattle.vertices.specs.Runs.{numbers}
 use Rattle.halls.specs.List.{Indices, Geometry, Model, optional, geometry_record, declaration_record, vertices_record, indices_record}
 use Rattle.halls.specs.Blocks.{ModelBlock, model_block, GeometryBlock, geometry_block, IndexBlock, index_block}
-use Rattle.halls.specs.Reading.{or_empty, vertex_count_of, vertices_of, geometry_of, first, rest, list_at, mapping_of}
-use Rattle.halls.specs.Inner.Measure.{list_bytes}
+use Rattle.halls.specs.Reading.{or_empty, vertex_count_of, vertices_of, geometry_of, list_at, mapping_of}
+use Rattle.halls.specs.Inner.Measure.{entries_of, list_bytes}
+use Rattle.halls.specs.declared.read.entries.Entry.{Entry}
+use Rattle.halls.specs.declared.format.numbers.GeometryNumbers.{GeometryNumbers}
 use Rattle.halls.specs.declared.read.view.IndexWidth.{IndexWidth}
 use Rattle.halls.specs.declared.read.view.IndexWidth.TheVariants.{Two, Four}
 use Rattle.halls.specs.declared.read.view.IndexItems.{IndexItems}
@@ -22,6 +24,10 @@ use Rattle.halls.specs.declared.read.view.GeometryView.{GeometryView}
 abbrev pub index_bytes : IndexWidth → ℕ
 index_bytes Two = 2
 index_bytes Four = 4
+
+-- of a stored size
+abbrev pub width_of : ℕ → Option IndexWidth
+width_of size = cond (eqb size 2) (Some Two) (cond (eqb size 4) (Some Four) None)
 
 unfoldable pub view_at : Sections → IndexWidth → ℕ → ℕ → Option IndexItems
 view_at s width count pointer =
@@ -64,11 +70,13 @@ pub record HeldIn (v : IndexView) (b : List ℕ) : Type 0 where
 
 unfoldable pub view_with : Sections → ℕ → GeometryBlock → Option VertexBuffer → GeometryView
 view_with s shader b buffer = record {
-  shader = shader;
-  index_count = b.indices;
-  triangle_count = b.triangles;
-  vertex_count = vertex_count_of b.vertices buffer;
-  stride = b.stride;
+  numbers = record {
+    shader = shader;
+    index_count = b.indices;
+    triangle_count = b.triangles;
+    vertex_count = vertex_count_of b.vertices buffer;
+    stride = b.stride;
+  };
   buffer = buffer;
   indices = index_view_in s (resolved s b.index_block 0x60);
 }
@@ -76,14 +84,14 @@ view_with s shader b buffer = record {
 unfoldable pub geometry_view : Sections → ℕ → GeometryBlock → GeometryView
 geometry_view s shader b = view_with s shader b (vertex_buffer_at s b.vertex_block b.inline b.vertices b.stride)
 
--- the five numbers of the geometry that a view shows
-abbrev pub numbers_seen : GeometryView → Geometry
-numbers_seen v = record {
-  shader = v.shader;
-  index_count = v.index_count;
-  triangle_count = v.triangle_count;
-  vertex_count = v.vertex_count;
-  stride = v.stride;
+-- a geometry of these five numbers alone
+abbrev pub numbers_seen : GeometryNumbers → Geometry
+numbers_seen n = record {
+  shader = n.shader;
+  index_count = n.index_count;
+  triangle_count = n.triangle_count;
+  vertex_count = n.vertex_count;
+  stride = n.stride;
   declaration = None;
   vertices = None;
   indices = None;
@@ -117,7 +125,7 @@ index_record s None = []
 index_record s (Some v) = indices_record (indices_seen s v)
 
 abbrev pub view_records : Sections → GeometryView → List ℕ
-view_records s v = geometry_record (numbers_seen v) ++ (buffer_records s v.buffer ++ index_record s v.indices)
+view_records s v = geometry_record (numbers_seen v.numbers) ++ (buffer_records s v.buffer ++ index_record s v.indices)
 
 abbrev pub declaration_length : Option VertexDeclaration → ℕ
 declaration_length None = 0
@@ -141,15 +149,19 @@ abbrev pub geometry_in : Sections → ℕ → Option (List ℕ) → List Geometr
 geometry_in s shader None = []
 geometry_in s shader (Some b) = geometry_of s shader (geometry_block b) ∷ []
 
--- the geometries behind these pointers, each with the mapping's entry at its position
-unfoldable pub geometries_at : Sections → List ℕ → List ℕ → List Geometry
-geometries_at s mapping [] = []
-geometries_at s mapping (p ∷ ps) = geometry_in s (first mapping) (resolved s p 0x98) ++ geometries_at s (rest mapping) ps
+-- the geometries behind these entries
+unfoldable pub geometries_behind : Sections → List Entry → List Geometry
+geometries_behind s [] = []
+geometries_behind s (e ∷ es) = geometry_in s e.shader (resolved s e.pointer 0x98) ++ geometries_behind s es
 
--- these are the bytes of a model's two lists
-pub record ListsOf (s : Sections) (b : ModelBlock) (pointers mapping : List ℕ) : Type 0 where
+-- the geometries behind these pointers, each with the mapping's entry at its position
+abbrev pub geometries_at : Sections → List ℕ → List ℕ → List Geometry
+geometries_at s mapping pointers = geometries_behind s (entries_of mapping pointers)
+
+-- these are the bytes of a model's two lists, if the first resolves
+pub record ListsOf (s : Sections) (b : ModelBlock) (pointers : Option (List ℕ)) (mapping : List ℕ) : Type 0 where
   pub few : b.count < 65536
-  pub pointers_are : pointers ≡ or_empty (list_bytes s 8 b.count b.geometries)
+  pub pointers_are : pointers ≡ list_bytes s 8 b.count b.geometries
   pub mapping-is : mapping ≡ or_empty (list_bytes s 2 b.count b.mapping)
 
 unfoldable pub model_of : Sections → ModelBlock → Model

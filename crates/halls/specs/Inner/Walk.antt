@@ -1,6 +1,8 @@
--- One pass over a hall's list: what stands at the front of the bytes left, what the records behind come to, and what a walk knows of those that it has passed. Private contracts speak of this; `TallyLaws` ties it to the verdict.
+-- One pass over a hall's list: what stands at the front of the bytes left, what the records behind come to, and what a walk knows of those that it
+-- has passed. Private contracts speak of this; `TallyLaws` ties it to the verdict.
 use Rattle.std.specs.Prelude.{Option, Some, None, Result, MatchResult}
-use Rattle.std.specs.Prelude.{◌≡◌, Bool, true, false, cond, ◌&&◌, List, [], ◌∷◌, ◌⊎◌, ℕ, ◌+◌, ◌*◌, ◌-◌, ◌/◌, ◌≤◌, ◌<◌, min, eqb, leb, length, take, drop}
+use Rattle.std.specs.Prelude.{◌≡◌, Bool, true, false, cond, ◌&&◌, List, [], ◌∷◌, ◌⊎◌, length, take, drop}
+use Rattle.std.specs.Prelude.{ℕ, ◌+◌, ◌*◌, ◌-◌, ◌/◌, ◌≤◌, ◌<◌, min, eqb, leb}
 use Rattle.vertices.specs.Runs.{numbers}
 use Rattle.halls.specs.Every.{every}
 use Rattle.halls.specs.Checks.{geometry_count, judged, hall_verdict}
@@ -86,34 +88,34 @@ abbrev pub left_of : List ℕ → Tally → List ℕ
 left_of s t = numbers 2 t.left (drop t.mapping s)
 
 abbrev pub start_tally : Tally
-start_tally = record { at = 0; lowest = passed; models = 0; geometries = 0; units = 0; model = 0; first = 0; mapping = 0; left = 0 }
+start_tally = record { at = 0; lowest = passed; summary = record { models = 0; geometries = 0; units = 0 }; model = 0; first = 0; mapping = 0; left = 0 }
 
 abbrev pub mark_of : Tally → Mark
-mark_of t = record { at = t.at; models = t.models; model = t.model; own = t.geometries - t.first }
+mark_of t = record { at = t.at; models = t.summary.models; model = t.model; own = t.summary.geometries - t.first }
 
 -- what stands before the next record: nothing, or a whole model or geometry
 abbrev pub before_of : Tally → ℕ
-before_of t = cond (eqb t.models 0) 0 5
+before_of t = cond (eqb t.summary.models 0) 0 5
 
 -- a walk over s has passed the records before t's place and found t
 pub record Walked (s : List ℕ) (t : Tally) : Type 0 where
   pub within : t.at ≤ length s
   pub structure : structured s ≡ well_from (before_of t) (drop t.at s)
   pub lowest : min passed (lowest_from [] (records s)) ≡ min t.lowest (lowest_from (left_of s t) (records (drop t.at s)))
-  pub models : kind_count 1 (records s) ≡ t.models + kind_count 1 (records (drop t.at s))
-  pub geometries : kind_count 2 (records s) ≡ t.geometries + kind_count 2 (records (drop t.at s))
-  pub image : units_from (records s) ≡ t.units + units_from (records (drop t.at s))
+  pub models : kind_count 1 (records s) ≡ t.summary.models + kind_count 1 (records (drop t.at s))
+  pub geometries : kind_count 2 (records s) ≡ t.summary.geometries + kind_count 2 (records (drop t.at s))
+  pub image : units_from (records s) ≡ t.summary.units + units_from (records (drop t.at s))
   pub mapping : t.mapping + 2 * t.left ≤ t.at
-  pub few : t.models + t.geometries ≤ t.at
-  pub small : t.units ≤ t.at
-  pub first : t.first ≤ t.geometries
+  pub few : t.summary.models + t.summary.geometries ≤ t.at
+  pub small : t.summary.units ≤ t.at
+  pub first : t.first ≤ t.summary.geometries
   pub marked : Marked s (mark_of t)
 
 -- behind the next record is another geometry of the same model, or another model without geometries so far
 pub record Onward (t u : Tally) : Type 0 where
   pub further : t.at < u.at
-  pub some-model : 0 < u.models
-  pub same_or-next : (u.models ≡ t.models) ⊎ ((u.models ≡ t.models + 1) × (u.first ≡ u.geometries))
+  pub some-model : 0 < u.summary.models
+  pub same_or-next : (u.summary.models ≡ t.summary.models) ⊎ ((u.summary.models ≡ t.summary.models + 1) × (u.first ≡ u.summary.geometries))
 
 -- and one turn on: further, or not a hall's records
 unfoldable pub Turned : List ℕ → Tally → Option Tally → Type 0
@@ -122,12 +124,12 @@ Turned s t None = structured s ≡ false
 
 -- ---- what it found
 
--- checks 13 and 19, where `parts` are the units of the models
-unfoldable pub limits_lowest : ℕ → ℕ → ℕ → ℕ
-limits_lowest models geometries parts = cond (leb models 256 && leb geometries 16384) (failing too_large (leb (1 + units (8 * models) + parts) 4194304)) 13
+-- check 19, where `parts` are the units of the models, and checks 13 and 19
+abbrev pub size_lowest : ℕ → ℕ → ℕ
+size_lowest models parts = failing too_large (leb (1 + units (8 * models) + parts) 4194304)
 
-abbrev pub summary_of : Tally → Summary
-summary_of t = record { models = t.models; geometries = t.geometries; units = t.units }
+unfoldable pub limits_lowest : ℕ → ℕ → ℕ → ℕ
+limits_lowest models geometries parts = cond (leb models 256 && leb geometries 16384) (size_lowest models parts) 13
 
 -- a summary gives a hall's counts and its image's size
 pub record Counted (h : Hall) (r : Summary) : Type 0 where

@@ -4,21 +4,18 @@ ghost use Rattle.halls.specs.Checks.{strides_agree, vertex_counts_agree, index_c
 ghost use Rattle.halls.specs.Fronts.{GeometryFront, front_geometry};
 ghost use Rattle.halls.specs.Inner.Judging.{HeadJudged, HeadTested, head_of, inside_stride, lowest_of};
 
-use crate::check::lists::FourByteIndices;
+use crate::check::lists::ByteIndices;
 use crate::check::order::PASSED;
 use crate::check::scan::triangles_lowest;
 use crate::format::front::GeometryShape;
+use crate::format::numbers::GeometryNumbers;
 use sections::{u8_le, u16_le, u32_le};
-use vertices::{VertexDeclaration, read_declaration};
+use vertices::{VertexDeclaration, VertexSemantic, read_declaration};
 
 // The numbers of a geometry's four records, and how many indices it holds.
 #[derive(Clone, Copy)]
 pub struct GeometryHead {
-    pub shader: u16,
-    pub index_count: u32,
-    pub triangle_count: u32,
-    pub vertex_count: u16,
-    pub stride: u16,
+    pub numbers: GeometryNumbers,
     pub declaration: VertexDeclaration,
     pub layout: u8,
     pub vertices_stride: u16,
@@ -37,10 +34,8 @@ pub fn geometry_lowest(front: &[u8], shape: GeometryShape) -> u8
     if lowest != PASSED {
         return lowest;
     }
-    let triangles = head.triangle_count as usize;
-    let indices = FourByteIndices {
-        bytes: &front[65 + shape.content..],
-    };
+    let triangles = head.numbers.triangle_count as usize;
+    let indices = ByteIndices::<u32>::of(&front[65 + shape.content..]);
     triangles_lowest(indices, triangles, head.vertices_count)
 }
 
@@ -50,11 +45,13 @@ pub fn geometry_head(front: &[u8], shape: GeometryShape) -> GeometryHead
     ensures { result ≡ head_of (front_geometry front.now) }
 {
     GeometryHead {
-        shader: u16_le(front, 6),
-        index_count: u32_le(front, 8),
-        triangle_count: u32_le(front, 12),
-        vertex_count: u16_le(front, 16),
-        stride: u16_le(front, 18),
+        numbers: GeometryNumbers {
+            shader: u16_le(front, 6),
+            index_count: u32_le(front, 8),
+            triangle_count: u32_le(front, 12),
+            vertex_count: u16_le(front, 16),
+            stride: u16_le(front, 18),
+        },
         declaration: read_declaration(front, 26),
         layout: u8_le(front, 48),
         vertices_stride: u16_le(front, 49),
@@ -71,7 +68,7 @@ pub fn head_lowest(head: GeometryHead) -> u8
     if !strides_agree(head) {
         return 14;
     }
-    if !components_inside(head.declaration, head.stride) {
+    if !components_inside(head.declaration, head.numbers.stride) {
         return 15;
     }
     if !vertex_counts_agree(head) {
@@ -86,55 +83,34 @@ pub fn head_lowest(head: GeometryHead) -> u8
 fn strides_agree(head: GeometryHead) -> bool
     ensures { HeadTested strides_agree head result }
 {
-    if head.layout != 0 {
-        return false;
-    }
-    if head.declaration.stride != head.stride {
-        return false;
-    }
-    head.vertices_stride == head.stride
+    head.layout == 0
+        && head.declaration.stride == head.numbers.stride
+        && head.vertices_stride == head.numbers.stride
 }
 
 // Check 15: the position has a size, and all components together are no longer than the stride.
 pub fn components_inside(declaration: VertexDeclaration, stride: u16) -> bool
     ensures { result ≡ inside_stride declaration stride }
 {
-    match declaration.component(0) {
-        Some(position) => {
-            if position.size == 0 {
-                return false;
-            }
-            declaration.size_in_bytes() <= stride
-        }
-        None => false,
-    }
+    let Some(position) = declaration.component_of(VertexSemantic::Position) else {
+        return false;
+    };
+    position.size != 0 && declaration.size_in_bytes() <= stride
 }
 
 fn vertex_counts_agree(head: GeometryHead) -> bool
     ensures { HeadTested vertex_counts_agree head result }
 {
     let count = head.vertices_count;
-    if head.vertex_count as u32 != count {
-        return false;
-    }
-    if count < 1 {
-        return false;
-    }
-    count <= 65535
+    u32::from(head.numbers.vertex_count) == count && 1 <= count && count <= 65535
 }
 
 fn index_counts_agree(head: GeometryHead) -> bool
     ensures { HeadTested index_counts_agree head result }
 {
     let held = head.held;
-    if head.index_count as usize != held {
-        return false;
-    }
-    if head.indices_count as usize != held {
-        return false;
-    }
-    if held != 3 * head.triangle_count as usize {
-        return false;
-    }
-    3 <= held
+    head.numbers.index_count as usize == held
+        && head.indices_count as usize == held
+        && held == 3 * head.numbers.triangle_count as usize
+        && 3 <= held
 }

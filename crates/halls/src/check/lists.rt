@@ -1,10 +1,13 @@
 // Lists of indices, three of them a triangle: of four bytes each, of two, or as a caller lends them.
 ghost use Rattle.std.specs.Prelude.{◌≡◌, List, ℕ, ◌+◌, ◌*◌, ◌/◌, ◌≤◌, length};
+ghost use Rattle.sections.specs.Edit.{part};
+ghost use Rattle.sections.specs.Le.{le};
 ghost use Rattle.vertices.specs.Runs.{numbers};
 ghost use Rattle.halls.specs.Inner.Counting.{triangle_in};
 
 use crate::check::triangle::Triangle;
 use crate::read::widen::{u16_at, u32_at};
+use std::marker::PhantomData;
 
 pub trait IndexList: Copy {
     ghost indices: { Self → List ℕ };
@@ -14,39 +17,57 @@ pub trait IndexList: Copy {
         ensures { result ≡ triangle_in (indices self) i };
 }
 
-#[derive(Clone, Copy)]
-pub struct FourByteIndices<'a> {
-    pub bytes: &'a [u8],
+// What an index is stored as; counted as a four-byte number: of two bytes each, triangles are no faster to tell apart.
+pub trait StoredIndex: Copy {
+    ghost WIDTH: { ℕ };
+
+    fn nth(b: &[u8], i: usize) -> u32
+        requires { (i + 1) * WIDTH ≤ length b.now }
+        ensures { result ≡ le (part b.now (i * WIDTH) WIDTH) };
 }
 
-impl<'a> IndexList for FourByteIndices<'a> {
-    ghost indices = { λ s. numbers 4 (length s.bytes.now / 4) s.bytes.now };
+impl StoredIndex for u16 {
+    ghost WIDTH = { 2 };
 
-    fn triangle(self, i: usize) -> Triangle {
-        let at = i * 12;
-        Triangle {
-            a: u32_at(self.bytes, at),
-            b: u32_at(self.bytes, at + 4),
-            c: u32_at(self.bytes, at + 8),
+    fn nth(b: &[u8], i: usize) -> u32 {
+        u32::from(u16_at(b, i * 2))
+    }
+}
+
+impl StoredIndex for u32 {
+    ghost WIDTH = { 4 };
+
+    fn nth(b: &[u8], i: usize) -> u32 {
+        u32_at(b, i * 4)
+    }
+}
+
+#[derive(Clone, Copy)]
+pub struct ByteIndices<'a, W> {
+    bytes: &'a [u8],
+    stored: PhantomData<W>,
+}
+
+impl<'a, W> ByteIndices<'a, W> {
+    pub fn of(bytes: &'a [u8]) -> ByteIndices<'a, W>
+        ensures { result.bytes.now ≡ bytes.now }
+    {
+        ByteIndices {
+            bytes,
+            stored: PhantomData,
         }
     }
 }
 
-// Counted as four-byte numbers: of two bytes each, triangles are no faster to tell apart.
-#[derive(Clone, Copy)]
-pub struct TwoByteIndices<'a> {
-    pub bytes: &'a [u8],
-}
-
-impl<'a> IndexList for TwoByteIndices<'a> {
-    ghost indices = { λ s. numbers 2 (length s.bytes.now / 2) s.bytes.now };
+impl<'a, W: StoredIndex> IndexList for ByteIndices<'a, W> {
+    ghost indices = { λ s. numbers W.WIDTH (length s.bytes.now / W.WIDTH) s.bytes.now };
 
     fn triangle(self, i: usize) -> Triangle {
-        let at = i * 6;
+        let first = i * 3;
         Triangle {
-            a: u32::from(u16_at(self.bytes, at)),
-            b: u32::from(u16_at(self.bytes, at + 2)),
-            c: u32::from(u16_at(self.bytes, at + 4)),
+            a: W::nth(self.bytes, first),
+            b: W::nth(self.bytes, first + 1),
+            c: W::nth(self.bytes, first + 2),
         }
     }
 }

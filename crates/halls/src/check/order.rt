@@ -1,6 +1,6 @@
 // The order of the hall's checks: 11 to 18, then 27, then 19. What a pass carries is a rank: the check's number, but for 19 a number above 27.
-// So the first check that fails is the one of the lowest rank. Ranks stay numbers, with one for no check, where a pass takes the lower of two at
-// each record: of two `Option`s that would be a match each time. `verdict_of` makes a `Result` of the last one.
+// So the first check that fails is the one of the lowest rank. `verdict_of` makes a `Result` of the last one.
+// Ranks stay numbers: with an enum and its derived order the scans were proved and as fast, but enum, ranks and laws take 72 lines and save 26.
 ghost use Rattle.std.specs.Prelude.{◌≡◌};
 ghost use Rattle.halls.specs.Inner.Order.{check_of, Told};
 

@@ -1,8 +1,8 @@
 // One pass over a hall's list: a record that is not a hall's ends it, otherwise the lowest rank of a check that fails is carried.
-ghost use Rattle.std.specs.Prelude.{◌≡◌, Some, ◌+◌, ◌*◌, ◌-◌, ◌<◌, ◌≤◌, eqb, length, drop};
+ghost use Rattle.std.specs.Prelude.{◌≡◌, Some, ◌+◌, ◌*◌, ◌-◌, ◌<◌, ◌≤◌, eqb, length, drop, MatchOption};
 ghost use Rattle.vertices.specs.Runs.{numbers};
 ghost use Rattle.halls.specs.Inner.Order.{failing};
-ghost use Rattle.halls.specs.Inner.Walk.{front_of, Walked, Turned, Surveyed, start_tally, mark_of, summary_of, limits_lowest, leads};
+ghost use Rattle.halls.specs.Inner.Walk.{front_of, Walked, Turned, Surveyed, start_tally, mark_of, limits_lowest, size_lowest, leads};
 ghost use Rattle.halls.specs.Inner.Seeking.{nearer_mark};
 ghost use Rattle.halls.specs.declared.format.front.Front.TheVariants.{Model, Geometry};
 
@@ -12,16 +12,21 @@ use crate::check::order::{PASSED, TOO_LARGE, verdict_of};
 use crate::format::front::{Front, GeometryShape, front_of};
 use sections::u16_le;
 
-// What the records before `at` come to. `lowest` is the rank of the first check that failed, or PASSED. `units` is their part of the image, 16 bytes
-// each. The last model's record begins at `model`, and `first` geometries stand before it. `mapping` is where the entries of its mapping stand that no
-// geometry has answered yet, and `left` how many they are.
+// Models and geometries, and their part of the image in units of 16 bytes, which leaves header and model pointers out.
+#[derive(Clone, Copy)]
+pub struct Summary {
+    pub models: usize,
+    pub geometries: usize,
+    pub units: usize,
+}
+
+// What the records before `at` come to. `lowest` is the rank of the first check that failed, or PASSED. The last model's record begins at `model`, and
+// `first` geometries stand before it. `mapping` is where the entries of its mapping stand that no geometry has answered yet, and `left` how many they are.
 #[derive(Clone, Copy)]
 pub struct Tally {
     pub at: usize,
     pub lowest: u8,
-    pub models: usize,
-    pub geometries: usize,
-    pub units: usize,
+    pub summary: Summary,
     pub model: usize,
     pub first: usize,
     pub mapping: usize,
@@ -48,11 +53,13 @@ fn pass_model(list: &[u8], t: Tally, entries: usize) -> Tally
     Tally {
         at: t.at + 12 + 2 * entries,
         lowest,
-        models: t.models + 1,
-        geometries: t.geometries,
-        units: t.units + 3 + (entries + 1) / 2 + (entries + 7) / 8,
+        summary: Summary {
+            models: t.summary.models + 1,
+            geometries: t.summary.geometries,
+            units: t.summary.units + 3 + (entries + 1) / 2 + (entries + 7) / 8,
+        },
         model: t.at,
-        first: t.geometries,
+        first: t.summary.geometries,
         mapping: t.at + 12,
         left: entries,
     }
@@ -63,7 +70,7 @@ fn pass_geometry(list: &[u8], t: Tally, shape: GeometryShape) -> Option<Tally>
     requires { (Walked list.now t) × (Some (Geometry shape) ≡ front_of (drop t.at list.now)) × (t.at + 65 + shape.content + 4 * shape.held ≤ length list.now) }
     ensures { Turned list.now t result }
 {
-    if t.models == 0 {
+    if t.summary.models == 0 {
         return None;
     }
     let at = t.at;
@@ -74,9 +81,11 @@ fn pass_geometry(list: &[u8], t: Tally, shape: GeometryShape) -> Option<Tally>
     Some(Tally {
         at: at + 65 + shape.content + 4 * shape.held,
         lowest,
-        models: t.models,
-        geometries: t.geometries + 1,
-        units: t.units + 25 + (shape.content + 15) / 16 + (shape.held + 7) / 8,
+        summary: Summary {
+            models: t.summary.models,
+            geometries: t.summary.geometries + 1,
+            units: t.summary.units + 25 + (shape.content + 15) / 16 + (shape.held + 7) / 8,
+        },
         model: t.model,
         first: t.first,
         mapping: t.mapping + 2,
@@ -89,10 +98,7 @@ fn answered(list: &[u8], mapping: usize, left: usize, shader: u16) -> u8
     requires { mapping + 2 * left ≤ length list.now }
     ensures { result ≡ failing 12 (leads shader (numbers 2 left (drop mapping list.now))) }
 {
-    if left == 0 {
-        return 12;
-    }
-    if u16_le(list, mapping) != shader {
+    if left == 0 || u16_le(list, mapping) != shader {
         return 12;
     }
     PASSED
@@ -108,14 +114,6 @@ fn unanswered(left: usize) -> u8
     12
 }
 
-// What a whole list comes to. `units` leaves header and model pointers out.
-#[derive(Clone, Copy)]
-pub struct Summary {
-    pub models: usize,
-    pub geometries: usize,
-    pub units: usize,
-}
-
 // A place that a pass has reached, behind `own` geometries of the last of `models` models, whose record begins at `model`.
 #[derive(Clone, Copy)]
 pub struct Mark {
@@ -123,6 +121,15 @@ pub struct Mark {
     pub models: usize,
     pub model: usize,
     pub own: usize,
+}
+
+impl Mark {
+    // The place of a model's record, of the mark that is nearest to it; None where there is no such model.
+    pub fn place_of(self, model: u64) -> Option<usize>
+        ensures { MatchOption result (self.models ≤ model) (λ place. (model < self.models) × (place ≡ self.model)) }
+    {
+        (model < self.models as u64).then_some(self.model)
+    }
 }
 
 // What a whole list comes to, and the place of its pass that is nearest to a geometry of a model.
@@ -133,7 +140,7 @@ pub struct Findings {
 }
 
 // As the number of a model or of a geometry: more than a list has, so that the pass comes nearest at the end.
-pub const LAST: u64 = 18446744073709551615;
+pub const LAST: u64 = u64::MAX;
 
 // The only loop that takes turns: with a second one the compiler no longer makes `next_turn` part of it, and the check takes nearly twice the time.
 pub fn survey(list: &[u8], model: u64, geometry: u64) -> Result<Findings, Refusal>
@@ -149,9 +156,14 @@ pub fn survey(list: &[u8], model: u64, geometry: u64) -> Result<Findings, Refusa
         t = u;
     }
     let lowest = t.lowest.min(unanswered(t.left));
-    verdict_of(lowest.min(limits_lowest(t.models, t.geometries, t.units)))?;
+    let Summary {
+        models,
+        geometries,
+        units,
+    } = t.summary;
+    verdict_of(lowest.min(limits_lowest(models, geometries, units)))?;
     Ok(Findings {
-        summary: summary_of(t),
+        summary: t.summary,
         nearest,
     })
 }
@@ -161,24 +173,21 @@ fn nearer(a: Mark, b: Mark, model: u64, geometry: u64) -> Mark
     requires { 0 < b.models }
     ensures { result ≡ nearer_mark a b model geometry }
 {
-    if geometry < b.own as u64 {
-        return a;
-    }
-    if model < b.models as u64 - 1 {
+    if geometry < b.own as u64 || model < b.models as u64 - 1 {
         return a;
     }
     b
 }
 
 fn mark_of(t: Tally) -> Mark
-    requires { t.first ≤ t.geometries }
+    requires { t.first ≤ t.summary.geometries }
     ensures { result ≡ mark_of t }
 {
     Mark {
         at: t.at,
-        models: t.models,
+        models: t.summary.models,
         model: t.model,
-        own: t.geometries - t.first,
+        own: t.summary.geometries - t.first,
     }
 }
 
@@ -188,9 +197,11 @@ fn start() -> Tally
     Tally {
         at: 0,
         lowest: PASSED,
-        models: 0,
-        geometries: 0,
-        units: 0,
+        summary: Summary {
+            models: 0,
+            geometries: 0,
+            units: 0,
+        },
         model: 0,
         first: 0,
         mapping: 0,
@@ -198,26 +209,21 @@ fn start() -> Tally
     }
 }
 
-fn summary_of(t: Tally) -> Summary
-    ensures { result ≡ summary_of t }
-{
-    Summary {
-        models: t.models,
-        geometries: t.geometries,
-        units: t.units,
-    }
-}
-
 // Checks 13 and 19.
 pub fn limits_lowest(models: usize, geometries: usize, parts: usize) -> u8
     ensures { result ≡ limits_lowest models geometries parts }
 {
-    if 256 < models {
+    if 256 < models || 16384 < geometries {
         return 13;
     }
-    if 16384 < geometries {
-        return 13;
-    }
+    size_lowest(models, parts)
+}
+
+// Check 19.
+pub fn size_lowest(models: usize, parts: usize) -> u8
+    requires { models ≤ 256 }
+    ensures { result ≡ size_lowest models parts }
+{
     if 4194303 - (models + 1) / 2 < parts {
         return TOO_LARGE;
     }

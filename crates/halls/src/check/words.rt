@@ -1,17 +1,19 @@
 // Indices as a caller lends them: a slice of four-byte numbers.
-ghost use Rattle.std.specs.Prelude.{◌≡◌, ◌+◌, ◌*◌, ◌%◌, ◌≤◌, length};
+ghost use Rattle.std.specs.Prelude.{◌≡◌, ◌+◌, ◌*◌, ◌≤◌, length};
 ghost use Rattle.sections.specs.Edit.{overwrite};
 ghost use Rattle.vertices.specs.Runs.{run};
-ghost use Rattle.halls.specs.Inner.Judging.{indices_lowest_of};
+ghost use Rattle.halls.specs.Inner.Judging.{lent_lowest};
 
 use crate::check::scan::triangles_lowest;
 use crate::read::widen::set_u32;
 
-// Checks 18 and 27 of the triangles that they make.
-pub fn lent_triangles_lowest(words: &[u32], limit: u32) -> u8
-    requires { length words.now % 3 ≡ 0 }
-    ensures { result ≡ indices_lowest_of limit words.now }
+// The rank of the first of checks 17, 18 and 27 that they fail as the indices of `limit` vertices, or PASSED.
+pub fn lent_indices_lowest(words: &[u32], limit: u32) -> u8
+    ensures { result ≡ lent_lowest limit words.now }
 {
+    if words.len() < 3 || words.len() % 3 != 0 {
+        return 17;
+    }
     triangles_lowest(words, words.len() / 3, limit)
 }
 

@@ -2,9 +2,9 @@
 ghost use Rattle.std.specs.Prelude.{◌≡◌, ◌++◌, ◌+◌, ◌*◌, ◌-◌, ◌^◌, ◌≤◌, ◌<◌, length, take};
 ghost use Rattle.sections.specs.Edit.{part, overwrite};
 ghost use Rattle.sections.specs.Le.{bytes};
-ghost use Rattle.halls.specs.Calls.{given_geometry, add_geometry};
+ghost use Rattle.halls.specs.Calls.{given_in, given_geometry, add_geometry};
 ghost use Rattle.halls.specs.Hall.{listed_geometry};
-ghost use Rattle.halls.specs.Inner.Judging.{given_in, given_lowest};
+ghost use Rattle.halls.specs.Inner.Judging.{given_lowest};
 ghost use Rattle.halls.specs.List.{write_geometry};
 ghost use Rattle.halls.specs.Inner.Walk.{model_units, geometry_units, Counted};
 ghost use Rattle.halls.specs.Checks.{hall_verdict};
@@ -14,14 +14,14 @@ ghost use Rattle.halls.specs.Records.{records};
 ghost use Rattle.halls.specs.Step.{Stepped};
 ghost use Rattle.halls.specs.Verdict.{Sound};
 
-use crate::answer::Refusal;
+use crate::answer::{Refusal, room};
 use crate::check::check::survey_first;
 use crate::check::geometry::components_inside;
 use crate::check::order::verdict_of;
 use crate::check::pass::{LAST, Summary, limits_lowest};
-use crate::check::words::lent_triangles_lowest;
+use crate::check::words::lent_indices_lowest;
+use crate::format::numbers::GeometryNumbers;
 use crate::format::record::{put_declaration, put_geometry, put_lent_indices, put_vertex_bytes};
-use crate::read::view::GeometryView;
 use sections::{copy_within, put_u16_le, put_u32_le, u32_le};
 use vertices::VertexDeclaration;
 
@@ -36,32 +36,14 @@ pub struct GivenGeometry<'a> {
     pub indices: &'a [u32],
 }
 
-// `content` are the bytes of `count` vertices.
-pub fn add_geometry(
-    hall: &mut [u8],
-    n: usize,
-    shader: u16,
-    declaration: VertexDeclaration,
-    stride: u16,
-    count: u32,
-    content: &[u8],
-    indices: &[u32],
-) -> Result<u64, Refusal>
-    ensures { Stepped (add_geometry (record { shader = shader; declaration = declaration; stride = stride; count = count; content = content.now; indices = indices.now })) hall.old n result hall.new }
+// Adds it to the hall of the first n bytes; check 21 where the hall has no model.
+pub fn add_geometry(hall: &mut [u8], n: usize, given: GivenGeometry) -> Result<u64, Refusal>
+    ensures { Stepped (add_geometry (given_in given.entry)) hall.old n result hall.new }
 {
     let found = survey_first(hall, n, LAST, 0)?;
-    if found.summary.models == 0 {
-        return Err(Refusal::by(21));
-    }
-    let given = GivenGeometry {
-        shader,
-        declaration,
-        stride,
-        count,
-        content,
-        indices,
-    };
-    append_geometry(hall, n, found.nearest.model, found.summary, given)
+    let last = found.summary.models.saturating_sub(1) as u64;
+    let place = found.nearest.place_of(last).ok_or(Refusal::by(21))?;
+    append_geometry(hall, n, place, found.summary, given)
 }
 
 // To the last model, whose record begins at `place`.
@@ -81,9 +63,7 @@ fn append_geometry(
     let limits = limits_lowest(found.models, found.geometries + 1, found.units + added);
     verdict_of(given_lowest(given).min(limits))?;
     let needed = n as u64 + 67 + given.content.len() as u64 + 4 * given.indices.len() as u64;
-    if (hall.len() as u64) < needed {
-        return Err(Refusal { check: 24, needed });
-    }
+    room(24, hall.len(), needed)?;
     insert_entry(hall, n, place + 6 + size as usize, given.shader);
     put_u32_le(hall, place, size + 2);
     put_given(hall, n + 2, given);
@@ -111,19 +91,10 @@ fn given_lowest(given: GivenGeometry) -> u8
     if !components_inside(declaration, stride) {
         return 15;
     }
-    if count < 1 {
+    if count < 1 || 65535 < count {
         return 16;
     }
-    if 65535 < count {
-        return 16;
-    }
-    if indices.len() < 3 {
-        return 17;
-    }
-    if indices.len() % 3 != 0 {
-        return 17;
-    }
-    lent_triangles_lowest(indices, count)
+    lent_indices_lowest(indices, count)
 }
 
 // What the image grows by, in units of 16 bytes, where the last model has `entries` geometries.
@@ -150,14 +121,12 @@ fn put_given(out: &mut [u8], at: usize, given: GivenGeometry)
     requires { (at + (65 + length given.content.now + 4 * length given.indices.now) ≤ length out.old) × (length given.content.now < 2 ^ 31) × (length given.indices.now < 2 ^ 29) × (given.count ≤ 65535) }
     ensures { out.new ≡ overwrite out.old at (write_geometry (listed_geometry (given_geometry (given_in given.entry)))) }
 {
-    let numbers = GeometryView {
+    let numbers = GeometryNumbers {
         shader: given.shader,
         index_count: given.indices.len() as u32,
         triangle_count: (given.indices.len() / 3) as u32,
         vertex_count: given.count as u16,
         stride: given.stride,
-        buffer: None,
-        indices: None,
     };
     let content = given.content;
     put_geometry(out, at, numbers);

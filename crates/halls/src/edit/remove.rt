@@ -11,7 +11,7 @@ ghost use Rattle.halls.specs.Verdict.{Sound};
 
 use crate::answer::Refusal;
 use crate::check::check::survey_first;
-use crate::check::find::{GeometryPlace, geometry_at, seek};
+use crate::check::find::{GeometryPlace, geometry_or_refused, seek};
 use crate::check::pass::{LAST, Mark};
 use crate::format::kind::RecordKind;
 use sections::{copy_within, put_u32_le, u32_le, zero};
@@ -34,11 +34,8 @@ fn remove_model_in_hall(
     requires { (hall_verdict hall.old n ≡ Sound) × (Nearest (take n hall.old) model last nearest) }
     ensures { Stepped (remove_model model) hall.old n result hall.new }
 {
-    if nearest.models as u64 <= model {
-        return Err(Refusal::by(21));
-    }
-    let place = nearest.model;
-    let end = seek(&hall[..n], nearest.at, RecordKind::Model, 0);
+    let place = nearest.place_of(model).ok_or(Refusal::by(21))?;
+    let end = seek(&hall[..n], nearest.at, RecordKind::Model, 0).unwrap_or(n);
     close_gap(hall, n, place, end);
     Ok((n - (end - place)) as u64)
 }
@@ -48,24 +45,8 @@ pub fn remove_geometry(hall: &mut [u8], n: usize, model: u64, geometry: u64) -> 
     ensures { Stepped (remove_geometry model geometry) hall.old n result hall.new }
 {
     let found = survey_first(hall, n, model, geometry)?;
-    remove_geometry_in_hall(hall, n, model, geometry, found.nearest)
-}
-
-// In a sound hall.
-fn remove_geometry_in_hall(
-    hall: &mut [u8],
-    n: usize,
-    model: u64,
-    geometry: u64,
-    nearest: Mark,
-) -> Result<u64, Refusal>
-    requires { (hall_verdict hall.old n ≡ Sound) × (Nearest (take n hall.old) model geometry nearest) }
-    ensures { Stepped (remove_geometry model geometry) hall.old n result hall.new }
-{
-    match geometry_at(&hall[..n], nearest, model, geometry) {
-        None => Err(Refusal::by(21)),
-        Some(places) => cut_geometry(hall, n, model, geometry, places),
-    }
+    let places = geometry_or_refused(hall, n, found.nearest, model, geometry)?;
+    cut_geometry(hall, n, model, geometry, places)
 }
 
 // Its entry of the model's mapping goes too: what stands between moves down by 2 bytes, what stands behind by both parts.

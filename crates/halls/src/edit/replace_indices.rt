@@ -8,15 +8,15 @@ ghost use Rattle.halls.specs.Parsing.{models_in};
 ghost use Rattle.halls.specs.Places.{GeometryIn};
 ghost use Rattle.halls.specs.Records.{records};
 ghost use Rattle.halls.specs.Step.{rewritten, Stepped};
-ghost use Rattle.halls.specs.Inner.Walk.{Counted, Found, units};
+ghost use Rattle.halls.specs.Inner.Walk.{Counted, units};
 ghost use Rattle.halls.specs.Verdict.{Sound};
 
-use crate::answer::Refusal;
+use crate::answer::{Refusal, room};
 use crate::check::check::survey_first;
-use crate::check::find::geometry_at;
-use crate::check::order::{PASSED, TOO_LARGE, verdict_of};
-use crate::check::pass::{Findings, Summary};
-use crate::check::words::lent_triangles_lowest;
+use crate::check::find::geometry_or_refused;
+use crate::check::order::verdict_of;
+use crate::check::pass::{Summary, size_lowest};
+use crate::check::words::lent_indices_lowest;
 use crate::edit::remove::close_gap;
 use crate::format::record::put_lent_indices;
 use sections::{copy_within, put_u32_le, u16_le, u32_le};
@@ -32,33 +32,9 @@ pub fn replace_indices(
     ensures { Stepped (replace_indices model geometry indices.now) hall.old n result hall.new }
 {
     let found = survey_first(hall, n, model, geometry)?;
-    replace_in_hall(hall, n, model, geometry, indices, found)
-}
-
-// In a sound hall.
-fn replace_in_hall(
-    hall: &mut [u8],
-    n: usize,
-    model: u64,
-    geometry: u64,
-    indices: &[u32],
-    found: Findings,
-) -> Result<u64, Refusal>
-    requires { (hall_verdict hall.old n ≡ Sound) × (Found (take n hall.old) model geometry found) }
-    ensures { Stepped (replace_indices model geometry indices.now) hall.old n result hall.new }
-{
-    match geometry_at(&hall[..n], found.nearest, model, geometry) {
-        None => Err(Refusal::by(21)),
-        Some(places) => replace_in_geometry(
-            hall,
-            n,
-            model,
-            geometry,
-            places.geometry,
-            indices,
-            found.summary,
-        ),
-    }
+    let places = geometry_or_refused(hall, n, found.nearest, model, geometry)?;
+    let at = places.geometry;
+    replace_in_geometry(hall, n, model, geometry, at, indices, found.summary)
 }
 
 // In the geometry whose records begin at `at`.
@@ -80,12 +56,7 @@ fn replace_in_geometry(
     let held = u32_le(hall, start + 6) as usize;
     verdict_of(indices_lowest(indices, count as u32, held, found))?;
     let needed = n - 4 * held + 4 * indices.len();
-    if hall.len() < needed {
-        return Err(Refusal {
-            check: 24,
-            needed: needed as u64,
-        });
-    }
+    room(24, hall.len(), needed as u64)?;
     rewrite(hall, n, at, start, held, indices);
     Ok(needed as u64)
 }
@@ -95,21 +66,9 @@ fn indices_lowest(indices: &[u32], limit: u32, held: usize, found: Summary) -> u
     requires { (units (2 * held) ≤ found.units) × (found.models ≤ 256) × (found.units ≤ 4194304) }
     ensures { verdict_of result ≡ indices_verdict indices.now limit found.models (found.units - units (2 * held) + units (2 * length indices.now)) }
 {
-    if indices.len() % 3 != 0 {
-        return 17;
-    }
-    if indices.len() < 3 {
-        return 17;
-    }
-    let lowest = lent_triangles_lowest(indices, limit);
-    if lowest != PASSED {
-        return lowest;
-    }
+    let lowest = lent_indices_lowest(indices, limit);
     let parts = found.units - (held + 7) / 8 + (indices.len() + 7) / 8;
-    if 4194303 - (found.models + 1) / 2 < parts {
-        return TOO_LARGE;
-    }
-    PASSED
+    lowest.min(size_lowest(found.models, parts))
 }
 
 // The list's new bytes, where the indices' record begins at `start` and the lent buffer is long enough.

@@ -10,7 +10,7 @@ ghost use Rattle.halls.specs.Verdict.{Sound};
 
 use crate::answer::Refusal;
 use crate::check::check::survey_first;
-use crate::check::find::geometry_at;
+use crate::check::find::geometry_or_refused;
 use sections::u16_le;
 use vertices::{VertexAttributeValue, VertexComponent, encode_value, has_shape, read_declaration};
 
@@ -25,31 +25,12 @@ pub struct AttributeChange {
 }
 
 // Sets the component of a semantic in one vertex of a geometry, in the hall of the first n bytes.
-pub fn set_attribute(
-    hall: &mut [u8],
-    n: usize,
-    model: u64,
-    geometry: u64,
-    vertex: u64,
-    semantic: u64,
-    value: VertexAttributeValue,
-) -> Result<u64, Refusal>
-    ensures { Stepped (set_attribute model geometry vertex semantic value) hall.old n result hall.new }
+pub fn set_attribute(hall: &mut [u8], n: usize, change: AttributeChange) -> Result<u64, Refusal>
+    ensures { Stepped (set_attribute change.model change.geometry change.vertex change.semantic change.value) hall.old n result hall.new }
 {
-    let found = survey_first(hall, n, model, geometry)?;
-    match geometry_at(&hall[..n], found.nearest, model, geometry) {
-        None => Err(Refusal::by(21)),
-        Some(places) => {
-            let change = AttributeChange {
-                model,
-                geometry,
-                vertex,
-                semantic,
-                value,
-            };
-            set_in_geometry(hall, n, places.geometry, change)
-        }
-    }
+    let found = survey_first(hall, n, change.model, change.geometry)?;
+    let places = geometry_or_refused(hall, n, found.nearest, change.model, change.geometry)?;
+    set_in_geometry(hall, n, places.geometry, change)
 }
 
 // In the geometry whose records begin at `at`.
@@ -65,10 +46,11 @@ fn set_in_geometry(
     if u16_le(hall, at + 16) as u64 <= change.vertex {
         return Err(Refusal::by(21));
     }
-    match read_declaration(hall, at + 26).component(change.semantic) {
-        None => Err(Refusal::by(22)),
-        Some(component) => set_component(hall, n, at, change, component),
-    }
+    let declaration = read_declaration(hall, at + 26);
+    let component = declaration
+        .component(change.semantic)
+        .ok_or(Refusal::by(22))?;
+    set_component(hall, n, at, change, component)
 }
 
 // The component's bytes are inside the vertex, and the vertex is inside the geometry's bytes.

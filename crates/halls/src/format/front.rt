@@ -67,33 +67,19 @@ fn has_geometry(list: &[u8], shape: GeometryShape) -> bool
     requires { Shaped list.now shape }
     ensures { result ≡ has_geometry list.now }
 {
-    if !has_record(list, 0, RecordKind::Geometry, 14) {
-        return false;
-    }
-    if !has_record(list, 20, RecordKind::Declaration, 16) {
-        return false;
-    }
-    if !has_record(list, 42, RecordKind::Vertices, 7 + shape.content) {
-        return false;
-    }
-    has_record(
-        list,
-        55 + shape.content,
-        RecordKind::Indices,
-        4 + 4 * shape.held,
-    )
+    let indices = 55 + shape.content;
+    has_record(list, 0, RecordKind::Geometry, 14)
+        && has_record(list, 20, RecordKind::Declaration, 16)
+        && has_record(list, 42, RecordKind::Vertices, 7 + shape.content)
+        && has_record(list, indices, RecordKind::Indices, 4 + 4 * shape.held)
 }
 
-// At this place a record of this kind begins, with a body of n bytes.
+// At this place a record of this kind begins, with a body of n bytes. The kind is compared as a number: which kind stands there instead is not asked.
 fn has_record(list: &[u8], at: usize, kind: RecordKind, n: usize) -> bool
     requires { n ≤ 2 ^ 60 }
     ensures { result ≡ has_record list.now at (kind_number kind) n }
 {
-    if !ends_inside(at, 6 + n, list.len()) {
-        return false;
-    }
-    if u32_le(list, at) as usize != n {
-        return false;
-    }
-    u16_le(list, at + 4) == kind.number()
+    ends_inside(at, 6 + n, list.len())
+        && u32_le(list, at) as usize == n
+        && u16_le(list, at + 4) == kind.number()
 }

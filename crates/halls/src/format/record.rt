@@ -7,45 +7,47 @@ ghost use Rattle.vertices.specs.Runs.{numbers, run};
 ghost use Rattle.halls.specs.List.{record_bytes, model_numbers, geometry_record, declaration_record, vertices_record, indices_record};
 ghost use Rattle.halls.specs.Inner.Kinds.{kind_number};
 ghost use Rattle.halls.specs.Inner.NewIndices.{indices_of};
-ghost use Rattle.halls.specs.Inner.View.{numbers_seen, HeldIn, held_count, indices_in, indices_length};
+ghost use Rattle.halls.specs.Inner.View.{numbers_seen};
 
 use crate::check::words::put_words;
 use crate::format::kind::RecordKind;
-use crate::read::view::{GeometryView, IndexView, IndexWidth, held};
-use crate::read::widen::put_widened;
+use crate::format::numbers::{GeometryNumbers, ModelNumbers};
+use crate::read::parts::StoredIndices;
+use crate::read::view::IndexWidth;
+use crate::read::widen::{put_copied, put_widened};
 use sections::{copy_into, put_u8_le, put_u16_le, put_u32_le};
 use vertices::{VertexBuffer, VertexDeclaration, write_declaration};
 
 // Kind 1: 12 bytes and the mapping.
-pub fn put_model(out: &mut [u8], at: usize, binding: u32, mask: u16, mapping: &[u8])
+pub fn put_model(out: &mut [u8], at: usize, model: ModelNumbers, mapping: &[u8])
     requires { (at + (12 + length mapping.now) ≤ length out.old) × (length mapping.now < 2 ^ 31) × (length mapping.now / 2 * 2 ≡ length mapping.now) }
-    ensures { out.new ≡ overwrite out.old at (record_bytes 1 (bytes 4 binding ++ (bytes 2 mask ++ run 2 (numbers 2 (length mapping.now / 2) mapping.now)))) }
+    ensures { out.new ≡ overwrite out.old at (record_bytes 1 (bytes 4 model.binding ++ (bytes 2 model.mask ++ run 2 (numbers 2 (length mapping.now / 2) mapping.now)))) }
 {
-    put_model_numbers(out, at, (6 + mapping.len()) as u32, binding, mask);
+    put_model_numbers(out, at, (6 + mapping.len()) as u32, model);
     copy_into(out, at + 12, mapping);
 }
 
 // Kind 1 up to the mapping: 12 bytes.
-pub fn put_model_numbers(out: &mut [u8], at: usize, body: u32, binding: u32, mask: u16)
+pub fn put_model_numbers(out: &mut [u8], at: usize, body: u32, model: ModelNumbers)
     requires { at + 12 ≤ length out.old }
-    ensures { out.new ≡ overwrite out.old at (model_numbers body binding mask) }
+    ensures { out.new ≡ overwrite out.old at (model_numbers body model.binding model.mask) }
 {
     put_head(out, at, body, RecordKind::Model);
-    put_u32_le(out, at + 6, binding);
-    put_u16_le(out, at + 10, mask);
+    put_u32_le(out, at + 6, model.binding);
+    put_u16_le(out, at + 10, model.mask);
 }
 
 // Kind 2: 20 bytes.
-pub fn put_geometry(out: &mut [u8], at: usize, view: GeometryView)
+pub fn put_geometry(out: &mut [u8], at: usize, numbers: GeometryNumbers)
     requires { at + 20 ≤ length out.old }
-    ensures { out.new ≡ overwrite out.old at (geometry_record (numbers_seen view)) }
+    ensures { out.new ≡ overwrite out.old at (geometry_record (numbers_seen numbers)) }
 {
     put_head(out, at, 14, RecordKind::Geometry);
-    put_u16_le(out, at + 6, view.shader);
-    put_u32_le(out, at + 8, view.index_count);
-    put_u32_le(out, at + 12, view.triangle_count);
-    put_u16_le(out, at + 16, view.vertex_count);
-    put_u16_le(out, at + 18, view.stride);
+    put_u16_le(out, at + 6, numbers.shader);
+    put_u32_le(out, at + 8, numbers.index_count);
+    put_u32_le(out, at + 12, numbers.triangle_count);
+    put_u16_le(out, at + 16, numbers.vertex_count);
+    put_u16_le(out, at + 18, numbers.stride);
 }
 
 // Kind 3: 22 bytes.
@@ -91,14 +93,14 @@ pub fn put_vertex_bytes(
     copy_into(out, at + 13, content);
 }
 
-// Kind 5: 10 bytes and the indices. `raw` has them as they are stored.
-pub fn put_indices(out: &mut [u8], at: usize, view: IndexView, raw: &[u8])
-    requires { (HeldIn view raw.now) × (at + indices_length (Some view) ≤ length out.old) }
-    ensures { out.new ≡ overwrite out.old at (indices_record (indices_in view raw.now)) }
+// Kind 5: 10 bytes and the indices, four bytes each.
+pub fn put_indices(out: &mut [u8], at: usize, indices: &StoredIndices)
+    requires { at + (10 + 4 * length indices.now.items) ≤ length out.old }
+    ensures { out.new ≡ overwrite out.old at (indices_record indices.now) }
 {
-    put_head(out, at, 4 + 4 * held(view), RecordKind::Indices);
-    put_u32_le(out, at + 6, view.count);
-    put_items(out, at + 10, view, raw);
+    put_head(out, at, 4 + 4 * indices.held(), RecordKind::Indices);
+    put_u32_le(out, at + 6, indices.count());
+    put_items(out, at + 10, indices);
 }
 
 // The same of indices that a caller lends.
@@ -112,16 +114,15 @@ pub fn put_lent_indices(out: &mut [u8], at: usize, indices: &[u32])
     put_words(out, at + 10, indices);
 }
 
-fn put_items(out: &mut [u8], at: usize, view: IndexView, raw: &[u8])
-    requires { (HeldIn view raw.now) × (at + held_count view * 4 ≤ length out.old) }
-    ensures { out.new ≡ overwrite out.old at (run 4 (indices_in view raw.now).items) }
+fn put_items(out: &mut [u8], at: usize, indices: &StoredIndices)
+    requires { at + length indices.now.items * 4 ≤ length out.old }
+    ensures { out.new ≡ overwrite out.old at (run 4 indices.now.items) }
 {
-    if let Some(items) = view.items {
+    let n = indices.view.count as usize;
+    if let Some(items) = indices.view.items {
         match items.width {
-            IndexWidth::Two => put_widened(out, at, raw, view.count as usize),
-            IndexWidth::Four => {
-                copy_into(out, at, raw);
-            }
+            IndexWidth::Two => put_widened(out, at, indices.bytes, n),
+            IndexWidth::Four => put_copied(out, at, indices.bytes, n),
         }
     }
 }

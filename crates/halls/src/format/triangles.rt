@@ -4,7 +4,7 @@ ghost use Rattle.halls.specs.Records.{records};
 ghost use Rattle.halls.specs.Triangles.{added, awaits, held_count, triangles_in};
 
 use crate::format::kind::RecordKind;
-use crate::format::walk::record_at;
+use crate::format::walk::records_from;
 use sections::u32_le;
 
 // For each geometry its stored index count, or the indices that it holds where that is 0, in threes; the greatest u64
@@ -12,14 +12,12 @@ use sections::u32_le;
 pub fn triangle_count(list: &[u8]) -> u64
     ensures { result ≡ min (triangles_in (records list.now)) (2 ^ 64 - 1) }
 {
-    let mut at: usize = 0;
     let mut awaited = false;
     let mut total: u64 = 0;
-    while let Some(found) = record_at(list, at) {
-        let body = &list[found.start..found.end];
-        total = total.saturating_add(record_triangles(awaited, found.kind, body));
-        awaited = awaits_indices(awaited, found.kind, body);
-        at = found.end;
+    for record in records_from(list, 0) {
+        let body = &list[record.start..record.end];
+        total = total.saturating_add(record_triangles(awaited, record.kind, body));
+        awaited = awaits_indices(awaited, record.kind, body);
     }
     total
 }
@@ -28,15 +26,14 @@ pub fn triangle_count(list: &[u8]) -> u64
 fn record_triangles(awaited: bool, kind: u16, body: &[u8]) -> u64
     ensures { result ≡ added awaited (record { kind = kind; body = body.now }) }
 {
-    if kind == RecordKind::Geometry.number() {
-        return (u32_le(body, 2) / 3) as u64;
+    let kind = RecordKind::of(kind);
+    if kind == Some(RecordKind::Geometry) {
+        u64::from(u32_le(body, 2) / 3)
+    } else if kind == Some(RecordKind::Indices) && awaited {
+        held_triangles(body)
+    } else {
+        0
     }
-    if kind == RecordKind::Indices.number() {
-        if awaited {
-            return held_triangles(body);
-        }
-    }
-    0
 }
 
 // The indices that a record holds behind their count, in threes.
@@ -50,11 +47,12 @@ fn held_triangles(body: &[u8]) -> u64
 fn awaits_indices(awaited: bool, kind: u16, body: &[u8]) -> bool
     ensures { result ≡ awaits awaited (record { kind = kind; body = body.now }) }
 {
-    if kind == RecordKind::Geometry.number() {
-        return u32_le(body, 2) == 0;
+    let kind = RecordKind::of(kind);
+    if kind == Some(RecordKind::Geometry) {
+        u32_le(body, 2) == 0
+    } else if kind == Some(RecordKind::Indices) {
+        false
+    } else {
+        awaited
     }
-    if kind == RecordKind::Indices.number() {
-        return false;
-    }
-    awaited
 }

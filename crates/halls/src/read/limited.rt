@@ -3,7 +3,7 @@ ghost use Rattle.halls.specs.Inner.Small.{Small};
 
 use sections::ResReader;
 
-#[derive(Drop)]
+#[derive(Clone, Copy)]
 pub struct Limited<'b, 'a> {
     pub reader: &'b ResReader<'a>,
     ghost small: { Small reader.now },

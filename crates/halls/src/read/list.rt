@@ -4,10 +4,12 @@ ghost use Rattle.halls.specs.Listing.{fitted, hall_list};
 ghost use Rattle.halls.specs.Outcome.{answer_of, after};
 ghost use Rattle.halls.specs.Reading.{need, list_at, read_models};
 
-use crate::answer::Refusal;
+use crate::answer::{Refusal, room};
+use crate::read::entries::Pointers;
 use crate::read::limited::Limited;
 use crate::read::measure::measure_models;
 use crate::read::pointers::list_bytes;
+use crate::read::stored::Models;
 use crate::read::write::write_models;
 use sections::ResReader;
 
@@ -35,17 +37,9 @@ fn list_models(limited: &Limited, count: u32, pointer: u64, list: &mut [u8]) -> 
     ensures answer { result ≡ answer_of (fitted (length list.old) (need 2 (list_at limited.now.reader.now 8 count pointer) (read_models limited.now.reader.now 0))) }
     ensures bytes { list.new ≡ after (fitted (length list.old) (need 2 (list_at limited.now.reader.now 8 count pointer) (read_models limited.now.reader.now 0))) list.old }
 {
-    let pointers = match list_bytes(limited.reader, 8, count, pointer) {
-        Some(pointers) => pointers,
-        None => return Err(Refusal::by(2)),
-    };
-    let measured = measure_models(limited.reader, pointers)?;
-    if (list.len() as u64) < measured.length {
-        return Err(Refusal {
-            check: 7,
-            needed: measured.length,
-        });
-    }
-    write_models(list, 0, limited, pointers);
+    let pointers = list_bytes(limited.reader, 8, count, pointer).ok_or(Refusal::by(2))?;
+    let measured = measure_models(limited.reader, Pointers::new(pointers))?;
+    room(7, list.len(), measured.length)?;
+    write_models(list, 0, Models::new(limited, pointers));
     Ok(measured.length)
 }

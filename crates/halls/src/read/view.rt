@@ -2,9 +2,11 @@
 ghost use Rattle.std.specs.Prelude.{◌≡◌, ◌<◌, ◌^◌};
 ghost use Rattle.sections.specs.Address.{resolved};
 ghost use Rattle.halls.specs.Blocks.{index_block, geometry_block};
-ghost use Rattle.halls.specs.Inner.View.{view_at, sized_view, block_view, index_view_in, index_bytes, bytes_seen, geometry_view, view_length, declaration_length, buffer_length, indices_length, held_count};
+ghost use Rattle.halls.specs.Inner.View.{width_of, view_at, sized_view, block_view, index_view_in, index_bytes, bytes_seen};
+ghost use Rattle.halls.specs.Inner.View.{geometry_view, view_length, declaration_length, buffer_length, indices_length, held_count};
 ghost use Rattle.halls.specs.Reading.{vertex_count_of, content_at};
 
+use crate::format::numbers::GeometryNumbers;
 use sections::{Located, ResReader, u16_le, u32_le, u64_le};
 use vertices::{VertexBuffer, VertexDeclaration, parse_vertex_buffer_at};
 
@@ -31,16 +33,23 @@ pub struct IndexView {
 
 #[derive(Clone, Copy)]
 pub struct GeometryView {
-    pub shader: u16,
-    pub index_count: u32,
-    pub triangle_count: u32,
-    pub vertex_count: u16,
-    pub stride: u16,
+    pub numbers: GeometryNumbers,
     pub buffer: Option<VertexBuffer>,
     pub indices: Option<IndexView>,
 }
 
 impl IndexWidth {
+    // Of a stored size, 2 or 4.
+    pub fn of(size: u16) -> Option<IndexWidth>
+        ensures { result ≡ width_of size }
+    {
+        match size {
+            2 => Some(IndexWidth::Two),
+            4 => Some(IndexWidth::Four),
+            _ => None,
+        }
+    }
+
     pub fn bytes(self) -> usize
         ensures { result ≡ index_bytes self }
     {
@@ -65,11 +74,13 @@ pub fn geometry_view(reader: &ResReader, raw: &[u8], shader: u16) -> GeometryVie
         stride,
     );
     GeometryView {
-        shader,
-        index_count: u32_le(raw, 0x58),
-        triangle_count: u32_le(raw, 0x5C),
-        vertex_count: vertex_count(stored, buffer),
-        stride,
+        numbers: GeometryNumbers {
+            shader,
+            index_count: u32_le(raw, 0x58),
+            triangle_count: u32_le(raw, 0x5C),
+            vertex_count: vertex_count(stored, buffer),
+            stride,
+        },
         buffer,
         indices: index_view(reader, u64_le(raw, 0x38)),
     }
@@ -82,10 +93,7 @@ fn vertex_count(stored: u16, buffer: Option<VertexBuffer>) -> u16
     if stored != 0 {
         return stored;
     }
-    match buffer {
-        Some(b) => b.vertex_count.min(65535) as u16,
-        None => 0,
-    }
+    buffer.map_or(0, |b| b.vertex_count.min(65535) as u16)
 }
 
 fn index_view(reader: &ResReader, va: u64) -> Option<IndexView>
@@ -108,17 +116,11 @@ fn block_view(reader: &ResReader, raw: &[u8]) -> IndexView
     }
 }
 
-// By the stored size of an index, 2 or 4.
 fn sized_view(reader: &ResReader, size: u16, count: u32, pointer: u64) -> Option<IndexItems>
     ensures { result ≡ sized_view reader.now size count pointer }
 {
-    if size == 2 {
-        return view_at(reader, IndexWidth::Two, count, pointer);
-    }
-    if size == 4 {
-        return view_at(reader, IndexWidth::Four, count, pointer);
-    }
-    None
+    let width = IndexWidth::of(size)?;
+    view_at(reader, width, count, pointer)
 }
 
 fn view_at(reader: &ResReader, width: IndexWidth, count: u32, pointer: u64) -> Option<IndexItems>
@@ -162,39 +164,27 @@ pub fn view_length(view: GeometryView) -> u64
 fn buffer_length(buffer: Option<VertexBuffer>) -> u64
     ensures { (result ≡ buffer_length buffer) × (result < 2 ^ 48) }
 {
-    match buffer {
-        Some(b) => {
-            let stored = declaration_length(b.declaration);
-            stored + (13 + b.vertex_count as u64 * b.vertex_stride as u64)
-        }
-        None => 0,
-    }
+    buffer.map_or(0, |b| {
+        let content = b.vertex_count as u64 * b.vertex_stride as u64;
+        declaration_length(b.declaration) + (13 + content)
+    })
 }
 
 fn declaration_length(declaration: Option<VertexDeclaration>) -> u64
     ensures { (result ≡ declaration_length declaration) × (result < 23) }
 {
-    match declaration {
-        Some(_) => 22,
-        None => 0,
-    }
+    declaration.map_or(0, |_| 22)
 }
 
 fn indices_length(indices: Option<IndexView>) -> u64
     ensures { (result ≡ indices_length indices) × (result < 2 ^ 35) }
 {
-    match indices {
-        Some(v) => 10 + 4 * held(v) as u64,
-        None => 0,
-    }
+    indices.map_or(0, |view| 10 + 4 * u64::from(held(view)))
 }
 
 // How many indices the list will have.
 pub fn held(view: IndexView) -> u32
     ensures { result ≡ held_count view }
 {
-    match view.items {
-        Some(_) => view.count,
-        None => 0,
-    }
+    view.items.map_or(0, |_| view.count)
 }

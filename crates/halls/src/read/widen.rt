@@ -5,6 +5,8 @@ ghost use Rattle.sections.specs.Edit.{part, overwrite};
 ghost use Rattle.sections.specs.Le.{le, bytes};
 ghost use Rattle.vertices.specs.Runs.{numbers, run};
 
+use sections::copy_into;
+
 pub fn put_widened(out: &mut [u8], at: usize, raw: &[u8], n: usize)
     requires { (n * 2 ≤ length raw.now) × (at + n * 4 ≤ length out.old) }
     ensures { out.new ≡ overwrite out.old at (run 4 (numbers 2 n raw.now)) }
@@ -14,8 +16,16 @@ pub fn put_widened(out: &mut [u8], at: usize, raw: &[u8], n: usize)
     }
 }
 
-// Fields that are known to fit, of this crate: what another crate calls asks nothing of its caller. A number is written in two halves: by the library's `copy_from_slice` of its bytes the compiler no longer widens several
-// at once, and two-byte indices took 2.6 times as long.
+// Four-byte indices stay as they are.
+pub fn put_copied(out: &mut [u8], at: usize, raw: &[u8], n: usize)
+    requires { (n * 4 ≡ length raw.now) × (at + n * 4 ≤ length out.old) }
+    ensures { out.new ≡ overwrite out.old at (run 4 (numbers 4 n raw.now)) }
+{
+    copy_into(out, at, raw);
+}
+
+// Fields that are known to fit, of this crate: what another crate calls asks nothing of its caller. A number is written in two halves: by the library's
+// `copy_from_slice` of its bytes the compiler no longer widens several at once, and two-byte indices took 2.6 times as long.
 
 pub fn u16_at(b: &[u8], off: usize) -> u16
     requires { off + 2 ≤ length b.now }

@@ -6,8 +6,5 @@ use Rattle.sections.proofs.EditLaws.{overwrite-none}
 use Rattle.exports.proofs.ToldLaws.{fitting-yes}
 use Rattle.exports.proofs.buffers.write_found.Goals as goal
 
-pub returns-in-Some : goal.returns-in-Some
-returns-in-Some c = rw c.in-Some.is c.write_buffer.ensures
-
 pub returns-in-None : goal.returns-in-None
 returns-in-None c = rw c.in-None.is (fitting-yes [] (omega arith) (sym (overwrite-none _ 0)) refl)

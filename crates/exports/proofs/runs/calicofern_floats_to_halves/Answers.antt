@@ -3,4 +3,4 @@ use Rattle.exports.proofs.ToldLaws.{converted-told}
 use Rattle.exports.proofs.runs.calicofern_floats_to_halves.Goals as goal
 
 pub returns : goal.returns
-returns c = converted-told c.floats_to_halves.ensures c.told_run.ensures.0 c.told_run.ensures.1
+returns c = converted-told c.floats_to_halves.ensures c.told_run.ensures.number c.told_run.ensures.«length»

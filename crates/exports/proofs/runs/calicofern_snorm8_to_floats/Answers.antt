@@ -3,4 +3,4 @@ use Rattle.exports.proofs.ToldLaws.{Widened-told}
 use Rattle.exports.proofs.runs.calicofern_snorm8_to_floats.Goals as goal
 
 pub returns : goal.returns
-returns c = Widened-told c.snorm8_to_floats.ensures c.told_run.ensures.0 c.told_run.ensures.1
+returns c = Widened-told c.snorm8_to_floats.ensures c.told_run.ensures.number c.told_run.ensures.«length»

@@ -3,4 +3,4 @@ use Rattle.exports.proofs.ToldLaws.{Unified-told}
 use Rattle.exports.proofs.unified.calicofern_unified_vertices.Goals as goal
 
 pub returns : goal.returns
-returns c = Unified-told c.declaration-declaration.ensures c.unified_vertices.ensures c.told_unified.ensures.0 c.told_unified.ensures.1
+returns c = Unified-told c.declaration-declaration.ensures c.unified_vertices.ensures c.told.ensures.number c.told.ensures.«length»

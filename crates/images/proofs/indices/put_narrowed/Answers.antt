@@ -5,9 +5,6 @@ use native.Mathlib.Omega.{arith}
 use Rattle.images.proofs.NarrowLaws.{Narrowing-odd}
 use Rattle.images.proofs.indices.put_narrowed.Goals as goal
 
-pub returns-then-pairs-n : goal.returns-then-pairs-n
-returns-then-pairs-n c = cc (c.put_pairs.ensures, c.if-pairs-n.true)
-
 pub returns : goal.returns
 returns c =
     let one : c.args.n / 2 * 2 + 1 ≡ c.args.n = omega (arith, c.if-pairs-n.false) in

@@ -1,7 +1,6 @@
 -- The indices passed stand in the list, two more a turn.
-use Prim.Native.Nat.{◌*◌, ◌≤◌}
 use native.Mathlib.Omega.{arith}
-use Rattle.images.proofs.NarrowLaws.{Narrowing-start, Narrowing-end, pairs_turn}
+use Rattle.images.proofs.NarrowLaws.{Narrowing-start, pairs_turn}
 use Rattle.images.proofs.indices.put_pairs.Goals as goal
 
 pub loop-i-init : goal.loop-i-init
@@ -9,11 +8,3 @@ loop-i-init c = let p = c.requires in Narrowing-start _ _ _ _ (omega (arith, p.0
 
 pub loop-i-preserved : goal.loop-i-preserved
 loop-i-preserved c = pairs_turn c.loop-i.invariant c.loop-i-test.true c.u32_at-first.ensures c.u32_at-second.ensures c.low_halves.ensures c.set_u32.ensures
-
-pub shape_of-out : goal.shape_of-out
-shape_of-out c = c.loop-i.invariant.same
-
-pub returns : goal.returns
-returns c =
-    let passed : c.args.n * 2 ≤ c.loop-i.i * 2 = omega (arith, c.loop-i-test.false) in
-    Narrowing-end c.loop-i.invariant passed

@@ -6,7 +6,7 @@ use Prim.Native.Nat.{ℕ, suc}
 use lib.ListN.{drop}
 use lib.Seq.{drop-drop}
 use Rattle.halls.proofs.WalkLaws.{slice-rest}
-use Rattle.images.proofs.LayingLaws.{Laying-first, address_low, item_room, item-measured, item-place, item-next, Laying-next, Laying-end}
+use Rattle.images.proofs.LayingLaws.{Laying-first, item_room, item-measured, item-place, item-next, Laying-next, Laying-end}
 use Rattle.images.proofs.WalkLaws.{walk-rest, walk-length, walk-passed}
 use Rattle.images.proofs.items.put_items.Goals as goal
 
@@ -15,9 +15,6 @@ loop-i-init g c =
     let p = c.requires.1 in
     let all : c.args.k - 0 ≡ c.args.k = omega arith in
     (Laying-first c.requires.0.sized _ _ _ _ _ p.within p.room p.apart, rw all c.requires.2)
-
-pub address_of-requires : goal.address_of-requires
-address_of-requires g c = address_low c.requires.0.sized c.loop-i.invariant.0 (omega (arith, c.loop-i-test.true))
 
 pub put-m-requires : goal.put-m-requires
 put-m-requires g c =

@@ -1,10 +1,10 @@
 -- The library's bytes of the number, put there.
 use Rattle.std.proofs.Common.{◌≡◌, ◌∙◌}
 use Rattle.sections.specs.Le.{bytes}
-use Rattle.sections.proofs.LeLaws.{to_le-is, length-bytes}
+use Rattle.sections.proofs.LeLaws.{to_le-is}
 use Rattle.sections.proofs.fields.put_u64_le.Goals as goal
 
 pub returns : goal.returns
 returns c =
     let e : c.to_le_bytes.result ≡ bytes 8 c.args.v = c.to_le_bytes.ensures ∙ to_le-is 8 c.args.v in
-    rw (e, length-bytes) at c.copy_into.ensures
+    rw e at c.put_bytes.ensures

@@ -1,16 +1,8 @@
--- The part where the range test holds, else none.
-use Rattle.std.proofs.Common.{arith, ◌≡◌, ◌+◌, ◌-◌, sym}
-use Rattle.sections.specs.Edit.{part}
+-- The bytes behind `at`, and of them the first.
 use Rattle.sections.specs.Address.{part_of}
+use Rattle.sections.proofs.EditLaws.{range-whole}
 use Rattle.sections.proofs.reader.part_of.Goals as goal
 
-pub returns-then-not-ends_inside : goal.returns-then-not-ends_inside
-unfolding part_of
-returns-then-not-ends_inside c = rw (sym c.if-not-ends_inside.ensures)
-
 pub returns : goal.returns
-unfolding part_of part
-returns c =
-    let a = c.args in
-    let e : a.at + a.len - a.at ≡ a.len = omega arith in
-    rw (e, sym c.if-not-ends_inside.ensures)
+unfolding part_of
+returns c = let rest = c.in_ok-get.ensures.lookup.0 in range-whole c.args.s.now c.args.at c.args.len _ c.get-2.result rest.0 rest.2 c.get-2.ensures.lookup.0

@@ -4,15 +4,12 @@ use native.Mathlib.Omega.{arith}
 use Rattle.vertices.proofs.NormalisedProduct.{snorm-products}
 use Rattle.vertices.proofs.normalised.snorm8_to_f32.Goals as goal
 
-pub int_to_float-signed : goal.int_to_float-signed
-int_to_float-signed c = rw c.from.ensures (snorm-products c.args.value (omega arith)).exact
-
 pub float_from_bits-at_least_minus_one : goal.float_from_bits-at_least_minus_one
 unfolding nan_bits
 float_from_bits-at_least_minus_one c = tt
 
 pub float_to_bits-result : goal.float_to_bits-result
-float_to_bits-result c = rw (c.at_least_minus_one.ensures, c.from.ensures) (snorm-products c.args.value (omega arith)).number
+float_to_bits-result c = rw (c.at_least_minus_one.ensures, c.cast_signed-signed.ensures) (snorm-products c.args.value (omega arith)).number
 
 pub returns : goal.returns
-returns c = rw (c.at_least_minus_one.ensures, c.from.ensures) (snorm-products c.args.value (omega arith)).bits
+returns c = rw (c.at_least_minus_one.ensures, c.cast_signed-signed.ensures) (snorm-products c.args.value (omega arith)).bits

@@ -1,27 +1,16 @@
 -- Behind a passed check the first n bytes are a hall's records, and the nearest place of the pass is of the model; where it fails nothing is found.
 use mathlib.Core.Path.{sym, ◌∙◌}
-use Rattle.halls.specs.Places.{model_found}
-use Rattle.halls.proofs.NearLaws.{model-absent, model-near, model-is_found}
-use Rattle.halls.proofs.StateLaws.{SoundBytes, SoundBytes_lem}
-use Rattle.halls.proofs.check.FoundLaws.{model_found-sound}
+use Rattle.halls.proofs.NearLaws.{near_place}
+use Rattle.halls.proofs.StateLaws.{SoundBytes_lem}
+use Rattle.halls.proofs.check.FoundLaws.{model_found-sound, no-model_found}
+use Rattle.halls.proofs.check.ToldLaws.{where-some}
 use Rattle.halls.proofs.check.find.find_model.Goals as goal
-use Rattle.halls.proofs.check.find.find_model.Goals.{In-Ok}
 
-sound : (c : In-Ok) → let a = c.args in SoundBytes a.hall.now a.n
-sound c = SoundBytes_lem _ _ (λ i. (c.type_inv.hall i).fits) c.in-Ok.ensures.0
-
-pub returns-in_default : goal.returns-in_default
-unfolding model_found
-returns-in_default c = rw c.in_default.ensures.0
-
-pub returns-then-found-model : goal.returns-then-found-model
-returns-then-found-model c =
-    let k = (goal.at.returns-then-found-model c).In-Ok in
-    let found = c.in-Ok.ensures in
-    model-absent _ _ (sound k).read.same-records found.1.nearest c.if-found-model.true ∙ sym (model_found-sound found.0 (sound k) _)
+pub returns-in_err-found : goal.returns-in_err-found
+returns-in_err-found c = c.from_residual.ensures ∙ no-model_found _ _ _ _ _ c.survey_first.ensures (sym c.ok.ensures.value ∙ c.in_err-found.was)
 
 pub returns : goal.returns
 returns c =
-    let k = (goal.at.returns c).In-Ok in
-    let found = c.in-Ok.ensures in
-    model-is_found (model-near _ _ (sound k).read.same-records found.1.nearest c.if-found-model.false) ∙ sym (model_found-sound found.0 (sound k) _)
+    let found = where-some _ _ c.survey_first.ensures (sym c.ok.ensures.value ∙ c.in_ok-found.was) in
+    let sound = SoundBytes_lem _ _ (λ i. (c.type_inv.hall i).fits) found.0 in
+    near_place _ _ sound.read.same-records found.1.nearest _ c.place_of.ensures ∙ sym (model_found-sound found.0 sound _)

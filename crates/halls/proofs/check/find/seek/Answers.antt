@@ -1,30 +1,25 @@
--- Each turn passes one record: what is sought from the place reached is what is sought from `at`.
-use mathlib.Core.Path.{refl, sym, ◌∙◌}
-use native.Mathlib.Omega.{arith}
-use Rattle.std.proofs.lemmas.Option.{MatchOption-at_none}
-use Rattle.halls.proofs.check.SeekLaws.{sought-end, sought-here, sought-next, sought-ended, sought-past}
+-- What is sought among the records that are left is what was sought.
+use Rattle.std.proofs.Common.{sym, ◌∙◌}
+use Rattle.halls.proofs.check.SeekLaws.{seeking_start, seeking_found, seeking_next, seeking_ended, seeking_past, seeking_end}
+use Rattle.halls.proofs.format.KindLaws.{is_kind, is-not_kind}
 use Rattle.halls.proofs.check.find.seek.Goals as goal
 
-pub loop-found-init : goal.loop-found-init
-loop-found-init c = (omega arith, refl)
+pub loop-record-init : goal.loop-record-init
+loop-record-init c = seeking_start _ _ _ _ (c.into_iter-record-iterator.ensures.into_iter_gives ∙ c.records_from-record-items.ensures)
 
 pub returns-then-left-eq0 : goal.returns-then-left-eq0
-returns-then-left-eq0 c = sought-here _ _ _ _ c.in-Some.ensures (c.if-found-number.true ∙ c.number.ensures) c.if-left-eq0.true ∙ c.loop-found.invariant.1
+returns-then-left-eq0 c = seeking_found c.loop-record.invariant c.in-Some.ensures.steps (is_kind _ _ c.of-found.ensures (sym c.if-eq.ensures)) c.if-left-eq0.true
 
-pub loop-found-preserved-else-left-eq0 : goal.loop-found-preserved-else-left-eq0
-loop-found-preserved-else-left-eq0 c =
-    let whole = c.in-Some.ensures in
-    (whole.inside, sought-next _ _ _ _ whole (c.if-found-number.true ∙ c.number.ensures) c.if-left-eq0.false ∙ c.loop-found.invariant.1)
+pub loop-record-preserved-then-eq : goal.loop-record-preserved-then-eq
+loop-record-preserved-then-eq c = seeking_next c.loop-record.invariant c.in-Some.ensures.steps (is_kind _ _ c.of-found.ensures (sym c.if-eq.ensures)) c.if-left-eq0.false
 
-pub returns-then-found-number-2 : goal.returns-then-found-number-2
-returns-then-found-number-2 c = sought-ended _ _ _ _ c.in-Some.ensures (λ k. c.if-found-number.false (k ∙ sym c.number.ensures)) (c.if-found-number-2.true ∙ c.number-else-found-number.ensures) ∙ c.loop-found.invariant.1
+pub returns-then-eq-2 : goal.returns-then-eq-2
+returns-then-eq-2 c =
+    seeking_ended c.loop-record.invariant c.in-Some.ensures.steps (is-not_kind _ _ c.of-found.ensures (sym c.if-eq.ensures)) (is_kind _ _ c.of-found.ensures (sym c.if-eq-2.ensures))
 
-pub loop-found-preserved : goal.loop-found-preserved
-loop-found-preserved c =
-    let whole = c.in-Some.ensures in
-    (whole.inside, sought-past _ _ _ _ whole (λ k. c.if-found-number.false (k ∙ sym c.number.ensures)) (λ m. c.if-found-number-2.false (m ∙ sym c.number-else-found-number.ensures)) ∙ c.loop-found.invariant.1)
+pub loop-record-preserved : goal.loop-record-preserved
+loop-record-preserved c =
+    seeking_past c.loop-record.invariant c.in-Some.ensures.steps (is-not_kind _ _ c.of-found.ensures (sym c.if-eq.ensures)) (is-not_kind _ _ c.of-found.ensures (sym c.if-eq-2.ensures))
 
 pub returns : goal.returns
-returns c =
-    let at-loop = c.loop-found.invariant in
-    sought-end _ _ _ _ at-loop.0 (MatchOption-at_none _ _ c.in_default.is c.record_at.ensures) ∙ at-loop.1
+returns c = seeking_end c.loop-record.invariant c.in-None.ensures.steps.0

@@ -17,7 +17,7 @@ use Rattle.halls.proofs.check.pass.survey.Goals as goal
 use Rattle.halls.proofs.check.pass.survey.Goals.{After-verdict_of}
 
 pub mark_of-nearest-requires : goal.mark_of-nearest-requires
-mark_of-nearest-requires c = subst (λ (t : Tally). t.first ≤ t.geometries) (sym c.start-t.ensures) (omega arith)
+mark_of-nearest-requires c = subst (λ (t : Tally). t.first ≤ t.summary.geometries) (sym c.start-t.ensures) (omega arith)
 
 pub loop-t-init : goal.loop-t-init
 loop-t-init c = (subst (Walked _) (sym c.start-t.ensures) (walk_start _), Near-start _ _ _ c.start-t.ensures c.mark_of-nearest.ensures)
@@ -57,7 +57,7 @@ loop-t-preserved c =
     (turned.0, rw (c.nearer-nearest.ensures, c.mark_of.ensures) (Near-turn c.loop-t.invariant.1 turned.0.marked turned.1))
 
 -- the whole list passed
-lowest : (c : After-verdict_of) → c.min.result ≡ min (min c.loop-t.t.lowest (failing 12 (eqb c.loop-t.t.left 0))) (limits_lowest c.loop-t.t.models c.loop-t.t.geometries c.loop-t.t.units)
+lowest : (c : After-verdict_of) → c.min.result ≡ min (min c.loop-t.t.lowest (failing 12 (eqb c.loop-t.t.left 0))) (limits_lowest c.loop-t.t.summary.models c.loop-t.t.summary.geometries c.loop-t.t.summary.units)
 lowest c = c.min.ensures ∙ rw (c.min-lowest.ensures, c.unanswered.ensures, c.limits_lowest.ensures)
 
 pub returns-in_err-verdict_of : goal.returns-in_err-verdict_of
@@ -73,4 +73,4 @@ returns c =
     let k = (goal.at.returns c).After-verdict_of in
     let passed = told-passed c.verdict_of.ensures c.in_ok-verdict_of.was in
     let sound = judged-sound _ (λ i. (c.type_inv.list i).fits) _ c.loop-t.invariant.0 c.loop-t-test.false _ (lowest k) passed in
-    (sound, found-all _ (λ i. (c.type_inv.list i).fits) _ c.loop-t.invariant.0 c.loop-t-test.false sound c.loop-t.invariant.1 (rw c.summary_of.ensures))
+    (sound, found-all _ (λ i. (c.type_inv.list i).fits) _ c.loop-t.invariant.0 c.loop-t-test.false sound c.loop-t.invariant.1 refl)

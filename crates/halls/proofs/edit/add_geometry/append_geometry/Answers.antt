@@ -5,8 +5,7 @@ use Prim.Native.Nat.{◌+◌, ◌≤◌, min}
 use native.Mathlib.Omega.{arith}
 use borrow.Author.Rules.{rules}
 use lib.ListN.{length}
-use Rattle.halls.specs.Calls.{Given}
-use Rattle.halls.specs.Inner.Judging.{given_in}
+use Rattle.halls.specs.Calls.{Given, given_in}
 use Rattle.halls.specs.Inner.Order.{passed}
 use Rattle.halls.specs.Inner.Walk.{limits_lowest}
 use Rattle.halls.proofs.check.ToldLaws.{told-passed, told-fails}
@@ -76,11 +75,13 @@ overflow_add-needed-3 c =
     let judged = (goal.at.overflow_add-needed-3 c).After-min in
     omega (arith, small judged (told-passed c.verdict_of.ensures c.in_ok-verdict_of.was))
 
-pub returns-then-hall-needed : goal.returns-then-hall-needed
-returns-then-hall-needed c =
-    let sized = (goal.at.returns-then-hall-needed c).After-u32_le-size in
-    let judged = (goal.at.returns-then-hall-needed c).After-min in
-    added-long _ _ (sound sized) (given sized) _ c.requires.1 _ c.requires.2 _ c.u32_le-size.ensures _ _ _ c.given_lowest.ensures c.added_units-added.ensures (lowest judged) (told-passed c.verdict_of.ensures c.in_ok-verdict_of.was) c.if-hall-needed.true
+pub returns-in_err-room : goal.returns-in_err-room
+returns-in_err-room c =
+    let sized = (goal.at.returns-in_err-room c).After-u32_le-size in
+    let judged = (goal.at.returns-in_err-room c).After-min in
+    let answer : c.from_residual-in_err-room.result ≡ Err c.in_err-room.field-0.0 = search rules in
+    answered (answer ∙ ap Err c.in_err-room.ensures.1)
+    (added-long _ _ (sound sized) (given sized) _ c.requires.1 _ c.requires.2 _ c.u32_le-size.ensures _ _ _ c.given_lowest.ensures c.added_units-added.ensures (lowest judged) (told-passed c.verdict_of.ensures c.in_ok-verdict_of.was) c.in_err-room.ensures.0)
 
 pub overflow_add-place : goal.overflow_add-place
 overflow_add-place c =
@@ -98,7 +99,7 @@ pub insert_entry-requires : goal.insert_entry-requires
 insert_entry-requires c =
     let sized = (goal.at.insert_entry-requires c).After-u32_le-size in
     let judged = (goal.at.insert_entry-requires c).After-min in
-    omega (arith, (room sized).entry-low, small judged (told-passed c.verdict_of.ensures c.in_ok-verdict_of.was), c.if-hall-needed.false)
+    omega (arith, (room sized).entry-low, small judged (told-passed c.verdict_of.ensures c.in_ok-verdict_of.was), c.in_ok-room.ensures)
 
 pub overflow_add-size : goal.overflow_add-size
 overflow_add-size c =
@@ -108,11 +109,11 @@ overflow_add-size c =
 pub put_given-requires : goal.put_given-requires
 put_given-requires c =
     let judged = (goal.at.put_given-requires c).After-min in
-    omega (arith, small judged (told-passed c.verdict_of.ensures c.in_ok-verdict_of.was), c.if-hall-needed.false)
+    omega (arith, small judged (told-passed c.verdict_of.ensures c.in_ok-verdict_of.was), c.in_ok-room.ensures)
 
 pub returns : goal.returns
 returns c =
     let sized = (goal.at.returns c).After-u32_le-size in
     let judged = (goal.at.returns c).After-min in
     added-done _ _ (sound sized) (given sized) _ c.requires.1 _ c.requires.2 _ c.u32_le-size.ensures _ _ _ c.given_lowest.ensures c.added_units-added.ensures (lowest judged) (told-passed c.verdict_of.ensures c.in_ok-verdict_of.was)
-    c.if-hall-needed.false c.insert_entry.ensures c.put_u32_le.ensures c.put_given.ensures
+    c.in_ok-room.ensures c.insert_entry.ensures c.put_u32_le.ensures c.put_given.ensures

@@ -1,9 +1,8 @@
 -- Each record is put right behind the one before it.
 use native.Mathlib.Omega.{arith}
 use lib.ListN.{length}
-use Rattle.halls.specs.Calls.{Given, given_geometry}
+use Rattle.halls.specs.Calls.{Given, given_geometry, given_in}
 use Rattle.halls.specs.Hall.{FullGeometry, listed_geometry}
-use Rattle.halls.specs.Inner.Judging.{given_in}
 use Rattle.halls.specs.List.{geometry_record, declaration_record, vertices_record, indices_record, write_geometry}
 use Rattle.halls.proofs.edit.AddedGeometry.{four-put}
 use Rattle.halls.proofs.read.ViewLaws.{geometry_record-length, declaration_record-length, vertices_record-length, indices_record-length}

@@ -15,12 +15,14 @@ returns-in_err-verdict_of c =
     let answer : c.from_residual.result ≡ Err c.in_err-verdict_of.field-0.0 = search rules in
     answered (answer ∙ ap Err told.1) (added-judged _ _ _ _ hall _ c.requires.1 _ c.limits_lowest.ensures told.0)
 
-pub returns-then-hall-n-lt12 : goal.returns-then-hall-n-lt12
-returns-then-hall-n-lt12 c =
+pub returns-in_err-room : goal.returns-in_err-room
+returns-in_err-room c =
     let hall = old _ _ (λ i. search rules) c.requires.0 in
-    added-long _ _ _ _ hall _ c.requires.1 _ c.limits_lowest.ensures (told-passed c.verdict_of.ensures c.in_ok-verdict_of.was) (omega (arith, c.requires.2))
+    let answer : c.from_residual-in_err-room.result ≡ Err c.in_err-room.field-0.0 = search rules in
+    answered (answer ∙ ap Err c.in_err-room.ensures.1)
+    (added-long _ _ _ _ hall _ c.requires.1 _ c.limits_lowest.ensures (told-passed c.verdict_of.ensures c.in_ok-verdict_of.was) (omega (arith, c.requires.2, c.in_err-room.ensures.0)))
 
 pub returns : goal.returns
 returns c =
     let hall = old _ _ (λ i. search rules) c.requires.0 in
-    added-done _ _ _ _ hall _ c.requires.1 _ c.limits_lowest.ensures (told-passed c.verdict_of.ensures c.in_ok-verdict_of.was) _ (omega (arith, c.requires.2)) c.put_model_numbers.ensures
+    added-done _ _ _ _ hall _ c.requires.1 _ c.limits_lowest.ensures (told-passed c.verdict_of.ensures c.in_ok-verdict_of.was) _ (omega (arith, c.requires.2, c.in_ok-room.ensures)) c.put_model_numbers.ensures

@@ -71,20 +71,22 @@ overflow_add-needed c =
     let k = (goal.at.overflow_add-needed c).After-slice_known-1 in
     omega (arith, (here k).old.within, few_indices (here k) _ c.u16_le-count.ensures c.u16_le-stride.ensures c.u32_le-held.ensures _ c.requires.2 c.indices_lowest.result c.indices_lowest.ensures (told-passed c.verdict_of.ensures c.in_ok-verdict_of.was))
 
-pub returns-then-hall-needed : goal.returns-then-hall-needed
-returns-then-hall-needed c =
-    let k = (goal.at.returns-then-hall-needed c).After-slice_known-1 in
-    replaced-long (here k) _ c.u16_le-count.ensures c.u16_le-stride.ensures c.u32_le-held.ensures _ c.requires.2 c.indices_lowest.result c.indices_lowest.ensures (told-passed c.verdict_of.ensures c.in_ok-verdict_of.was) c.if-hall-needed.true
+pub returns-in_err-room : goal.returns-in_err-room
+returns-in_err-room c =
+    let k = (goal.at.returns-in_err-room c).After-slice_known-1 in
+    let answer : c.from_residual-in_err-room.result ≡ Err c.in_err-room.field-0.0 = search rules in
+    answered (answer ∙ ap Err c.in_err-room.ensures.1)
+    (replaced-long (here k) _ c.u16_le-count.ensures c.u16_le-stride.ensures c.u32_le-held.ensures _ c.requires.2 c.indices_lowest.result c.indices_lowest.ensures (told-passed c.verdict_of.ensures c.in_ok-verdict_of.was) c.in_err-room.ensures.0)
 
 pub rewrite-requires : goal.rewrite-requires
 rewrite-requires c =
     let k = (goal.at.rewrite-requires c).After-slice_known-1 in
     let inside = room-held k c.u16_le-count.ensures c.u16_le-stride.ensures c.u32_le-held.ensures in
     let few = few_indices (here k) _ c.u16_le-count.ensures c.u16_le-stride.ensures c.u32_le-held.ensures _ c.requires.2 c.indices_lowest.result c.indices_lowest.ensures (told-passed c.verdict_of.ensures c.in_ok-verdict_of.was) in
-    (omega arith, inside, (here k).old.within, c.if-hall-needed.false, omega (arith, few))
+    (omega arith, inside, (here k).old.within, c.in_ok-room.ensures, omega (arith, few))
 
 pub returns : goal.returns
 returns c =
     let k = (goal.at.returns c).After-slice_known-1 in
     replaced-done (here k) _ c.u16_le-count.ensures c.u16_le-stride.ensures c.u32_le-held.ensures _ c.requires.2 c.indices_lowest.result c.indices_lowest.ensures (told-passed c.verdict_of.ensures c.in_ok-verdict_of.was)
-    c.if-hall-needed.false c.rewrite.ensures
+    c.in_ok-room.ensures c.rewrite.ensures

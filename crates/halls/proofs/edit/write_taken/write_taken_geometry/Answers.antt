@@ -1,9 +1,18 @@
--- Nothing where a part is lacking, else the records of both parts.
-use Rattle.halls.proofs.edit.TakenBytes.{shown-none, shown-unindexed, wrote-none}
+-- The records of a whole geometry, or nothing.
+use Rattle.std.proofs.Common.{arith, sym, ap, subst, ◌∙◌, length, List, ℕ}
+use Rattle.halls.specs.Inner.Small.{Wrote}
+use Rattle.halls.proofs.edit.TakenBytes.{full-bytes, lacking, wrote-none}
 use Rattle.halls.proofs.edit.write_taken.write_taken_geometry.Goals as goal
 
-pub returns-in_default : goal.returns-in_default
-returns-in_default c = wrote-none c.args.out.now c.args.at (shown-unindexed c.args.limited.now.reader.now c.args.view _ c.in_default.is-0 c.in_default.is-1)
+pub write_whole-requires : goal.write_whole-requires
+write_whole-requires c =
+    let same = full-bytes c.args.geometry.now c.in-Some.whole (sym c.whole.ensures ∙ c.in-Some.is) in
+    omega (arith, ap length same, c.requires)
 
-pub returns-in_default-2 : goal.returns-in_default-2
-returns-in_default-2 c = wrote-none c.args.out.now c.args.at (shown-none c.args.limited.now.reader.now c.args.view c.in_default.is-0)
+pub returns-in-Some : goal.returns-in-Some
+returns-in-Some c =
+    let same = full-bytes c.args.geometry.now c.in-Some.whole (sym c.whole.ensures ∙ c.in-Some.is) in
+    subst (λ (w : List ℕ). Wrote c.args.out.now c.args.at w c.write_whole.result c.write_whole.new.out) (sym same) c.write_whole.ensures
+
+pub returns-in-None : goal.returns-in-None
+returns-in-None c = wrote-none c.args.out.now c.args.at (lacking c.args.geometry.now (sym c.whole.ensures ∙ c.in-None.is))

@@ -1,45 +1,32 @@
--- Its lists are those of the block.
-use mathlib.Core.Path.{◌≡◌, ap, subst}
-use mathlib.Core.List.{List, []}
-use Prim.Native.Nat.{ℕ}
-use native.Mathlib.Omega.{arith}
-use lib.ListN.{length}
-use Rattle.halls.specs.Blocks.{model_block}
-use Rattle.halls.specs.Inner.Measure.{whole_numbers}
-use Rattle.halls.specs.Inner.Small.{Wrote}
-use Rattle.halls.specs.Inner.Taking.{model_bytes}
-use Rattle.halls.specs.Inner.View.{ListsOf, geometries_at, model_of}
-use Rattle.halls.proofs.read.ModelLaws.{lists_of, pointers_few}
-use Rattle.halls.proofs.edit.TakenBytes.{Block-bytes}
-use Rattle.halls.proofs.edit.write_taken.write_taken_model.Goals.{After-u16_le-mask}
+-- The mapping, the numbers before it, and the geometries right behind it.
+use Rattle.std.proofs.Common.{arith, ap, length, refl, ◌∙◌, ◌-◌}
+use Rattle.sections.proofs.EditLaws.{overwrite-length}
+use Rattle.halls.proofs.edit.TakenBytes.{shaders-length, model_bytes-length, model-put, numbers-length-12}
 use Rattle.halls.proofs.edit.write_taken.write_taken_model.Goals as goal
 
-module _ (c : After-u16_le-mask) where
-  lists : ListsOf c.args.limited.now.reader.now (model_block c.args.raw.now) c.list_bytes_or_empty-pointers.result.now c.list_bytes_or_empty-mapping.result.now
-  lists =
-      lists_of c.args.limited.now.reader.now c.args.raw.now _ _ _ c.u16_le-count.ensures c.u64_le.ensures c.u64_le-2.ensures (omega arith) c.list_bytes_or_empty-pointers.ensures
-      c.list_bytes_or_empty-mapping.ensures
+pub write_shaders-next-requires : goal.write_shaders-next-requires
+write_shaders-next-requires c = rw c.geometries.ensures.those (omega (arith, c.requires, model_bytes-length c.args.model.now))
 
-  abbrev by_lists : List ℕ
-  by_lists =
-      let s = c.args.limited.now.reader.now in
-      model_bytes (record {
-        binding = c.u32_le-binding.result;
-        mask = c.u16_le-mask.result;
-        mapping = [];
-        geometries = geometries_at s (whole_numbers 2 c.list_bytes_or_empty-mapping.result.now) (whole_numbers 8 c.list_bytes_or_empty-pointers.result.now);
-      })
+pub overflow_cast-body : goal.overflow_cast-body
+overflow_cast-body c = omega (arith, c.write_shaders-next.ensures.0, shaders-length c.geometries.result, c.geometries.ensures.few)
 
-  same : by_lists ≡ model_bytes (model_of c.args.limited.now.reader.now (model_block c.args.raw.now))
-  unfolding model_block
-  same = Block-bytes _ _ _ _ lists _ _ c.u32_le-binding.ensures c.u16_le-mask.ensures
+pub put_model_numbers-requires : goal.put_model_numbers-requires
+put_model_numbers-requires c =
+    let shaders = rw c.geometries.ensures.those at c.write_shaders-next.ensures in
+    let same = ap length shaders.1 ∙ overwrite-length c.args.out.now _ _ (omega (arith, c.requires, model_bytes-length c.args.model.now)) in
+    omega (arith, c.requires, model_bytes-length c.args.model.now, same)
 
-pub write_taken_lists-requires : goal.write_taken_lists-requires
-write_taken_lists-requires c =
-    let k = (goal.at.write_taken_lists-requires c).After-u16_le-mask in
-    (pointers_few _ _ _ _ (lists k), omega (arith, ap length (same k), c.requires))
+pub write_taken_geometries-requires : goal.write_taken_geometries-requires
+write_taken_geometries-requires c =
+    let shaders = rw c.geometries.ensures.those at c.write_shaders-next.ensures in
+    let long = model_bytes-length c.args.model.now in
+    let same = ap length shaders.1 ∙ overwrite-length c.args.out.now _ _ (omega (arith, c.requires, long)) in
+    let head = numbers-length-12 (c.write_shaders-next.result - c.args.at - 6) c.numbers.result.binding c.numbers.result.mask in
+    let put = ap length c.put_model_numbers.ensures ∙ overwrite-length _ c.args.at _ (omega (arith, c.requires, long, same, head)) in
+    rw c.geometries-2.ensures.those (omega (arith, shaders.0, c.requires, long, same, put))
 
 pub returns : goal.returns
 returns c =
-    let k = (goal.at.returns c).After-u16_le-mask in
-    subst (λ (x : List ℕ). Wrote c.args.out.now c.args.at x c.write_taken_lists.result c.write_taken_lists.new.out) (same k) c.write_taken_lists.ensures
+    let shaders = rw c.geometries.ensures.those at c.write_shaders-next.ensures in
+    let last = rw c.geometries-2.ensures.those at c.write_taken_geometries.ensures in
+    model-put c.args.model.now c.args.out.now c.args.at shaders refl c.numbers.ensures.binding c.numbers.ensures.mask c.put_model_numbers.ensures last c.requires

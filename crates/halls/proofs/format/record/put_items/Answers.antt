@@ -1,34 +1,53 @@
 -- Two bytes are widened, four are copied, and where there are no indices nothing is written.
-use mathlib.Core.Path.{sym, ap, ◌∙◌}
-use Prim.Native.Nat.{◌*◌}
-use native.Mathlib.Omega.{arith}
-use lib.ListN.{length}
+use Rattle.std.proofs.Common.{arith, sym, ap, ◌∙◌, length, List, ℕ, ◌*◌, ◌≡◌, Some}
 use Rattle.sections.specs.Edit.{overwrite}
-use Rattle.sections.proofs.EditLaws.{Edited-fits, overwrite-none}
+use Rattle.sections.proofs.EditLaws.{overwrite-none}
 use Rattle.vertices.specs.Runs.{numbers, run}
-use Rattle.halls.specs.Inner.View.{index_bytes}
+use Rattle.halls.specs.List.{Indices}
+use Rattle.halls.specs.Inner.View.{HeldIn, index_bytes, indices_in}
+use Rattle.halls.specs.declared.read.view.IndexItems.{IndexItems}
+use Rattle.halls.specs.declared.read.view.IndexView.{IndexView}
 use Rattle.halls.specs.declared.read.view.IndexWidth.{IndexWidth}
-use Rattle.halls.proofs.read.HeldLaws.{no_items, items_by, held_by_lem, long_by, four_bytes}
+use Rattle.halls.proofs.read.HeldLaws.{no_items, items_by, held_by_lem, items_length_lem, long_by}
 use Rattle.halls.proofs.format.record.put_items.Goals as goal
+
+-- the view has items of this width
+module _ (v : IndexView) (raw : List ℕ) (i : IndexItems) (told : v.items ≡ Some i) {x : Indices} (is : indices_in v raw ≡ x) where
+  seen : {w : IndexWidth} → i.width ≡ w → numbers (index_bytes w) v.count raw ≡ x.items
+  seen e = ap (λ (w : IndexWidth). numbers (index_bytes w) v.count raw) (sym e) ∙ sym (items_by v raw i told) ∙ ap (λ (y : Indices). y.items) is
+
+  many : length x.items ≡ v.count
+  many = ap (λ (y : Indices). length y.items) (sym is) ∙ items_length_lem v raw ∙ held_by_lem v raw i told
+
+  long : {w : IndexWidth} → HeldIn v raw → i.width ≡ w → length raw ≡ v.count * index_bytes w
+  long h e = long_by v raw i told h ∙ ap (λ (w : IndexWidth). v.count * index_bytes w) e
+
+pub put_widened-requires : goal.put_widened-requires
+put_widened-requires c =
+    let v = c.indices.inside.view in
+    let raw = c.indices.inside.bytes.now in
+    let i = c.in-Some.items in
+    (omega (arith, long v raw i c.in-Some.is c.indices.view_is c.indices.invariant c.in-Two.is), omega (arith, many v raw i c.in-Some.is c.indices.view_is, c.requires))
 
 pub returns-in-Two : goal.returns-in-Two
 returns-in-Two c =
-    let v = c.args.view in
-    let raw = c.args.raw.now in
-    let same = items_by v raw c.in-Some.items c.in-Some.is ∙ ap (λ (w : IndexWidth). numbers (index_bytes w) v.count raw) c.in-Two.is in
-    c.put_widened.ensures ∙ rw same
+    let same = seen c.indices.inside.view c.indices.inside.bytes.now c.in-Some.items c.in-Some.is c.indices.view_is c.in-Two.is in
+    c.put_widened.ensures ∙ ap (λ (xs : List ℕ). overwrite c.args.out.now c.args.at (run 4 xs)) same
+
+pub put_copied-requires : goal.put_copied-requires
+put_copied-requires c =
+    let v = c.indices.inside.view in
+    let raw = c.indices.inside.bytes.now in
+    let i = c.in-Some.items in
+    (omega (arith, long v raw i c.in-Some.is c.indices.view_is c.indices.invariant c.in-Four.is), omega (arith, many v raw i c.in-Some.is c.indices.view_is, c.requires))
 
 pub returns-in-Four : goal.returns-in-Four
 returns-in-Four c =
-    let v = c.args.view in
-    let raw = c.args.raw.now in
-    let i = c.in-Some.items in
-    let told = c.in-Some.is in
-    let held = held_by_lem v raw i told in
-    let long = long_by v raw i told c.requires.0 ∙ ap (λ (w : IndexWidth). v.count * index_bytes w) c.in-Four.is in
-    let same = four_bytes v raw i told (λ j. (c.type_inv.raw j).fits) c.in-Four.is c.requires.0 in
-    Edited-fits (length raw) c.copy_into.ensures (omega (arith, c.requires.1)) ∙ ap (overwrite c.args.out.now c.args.at) same
+    let same = seen c.indices.inside.view c.indices.inside.bytes.now c.in-Some.items c.in-Some.is c.indices.view_is c.in-Four.is in
+    c.put_copied.ensures ∙ ap (λ (xs : List ℕ). overwrite c.args.out.now c.args.at (run 4 xs)) same
 
 pub returns-in_default : goal.returns-in_default
 unfolding run
-returns-in_default c = rw (no_items c.args.view c.args.raw.now c.in_default.is) (sym (overwrite-none c.args.out.now c.args.at))
+returns-in_default c =
+    let none = sym (ap (λ (i : Indices). i.items) c.indices.view_is) ∙ no_items c.indices.inside.view c.indices.inside.bytes.now c.in_default.is in
+    rw none (sym (overwrite-none c.args.out.now c.args.at))

@@ -22,5 +22,5 @@ unfolding bytes
 returns c =
     let mapping = c.args.mapping.now in
     Edited-behind _ _ _ 12 _ c.put_model_numbers.ensures refl refl c.copy_into.ensures (omega arith) ∙ ap (overwrite _ _) (model-parts _ _ _)
-    ∙ ap (λ (l : List ℕ). overwrite c.args.out.now c.args.at (record_bytes 1 (bytes 4 c.args.binding ++ (bytes 2 c.args.mask ++ l))))
+    ∙ ap (λ (l : List ℕ). overwrite c.args.out.now c.args.at (record_bytes 1 (bytes 4 c.args.model.binding ++ (bytes 2 c.args.model.mask ++ l))))
     (sym (even-run mapping (λ i. (c.type_inv.mapping i).fits) c.requires.2))

@@ -1,13 +1,23 @@
--- The records before `at` are counted; each turn counts one more, and the loop ends where no whole one is left.
-use Rattle.std.proofs.lemmas.Option.{MatchOption-at_none}
-use Rattle.halls.proofs.format.TriangleLaws.{Counting-start, Counting-turn, Counting-end}
+-- The records before those that are left are counted; each turn counts one more.
+use mathlib.Core.Path.{◌∙◌}
+use Rattle.halls.proofs.format.TriangleLaws.{Counting-start, Counting-inside, Counting-turn, Counting-end}
 use Rattle.halls.proofs.format.triangles.triangle_count.Goals as goal
 
-pub loop-found-init : goal.loop-found-init
-loop-found-init c = Counting-start _
+pub loop-record-init : goal.loop-record-init
+loop-record-init c = Counting-start _ (c.into_iter-record-iterator.ensures.into_iter_gives ∙ c.records_from-record-items.ensures)
 
-pub loop-found-preserved : goal.loop-found-preserved
-loop-found-preserved c = Counting-turn c.loop-found.invariant c.in-Some.ensures c.record_triangles.ensures c.awaits_indices-awaited.ensures c.saturating_add-total.ensures
+pub slice_bounds-body-count : goal.slice_bounds-body-count
+slice_bounds-body-count c = (Counting-inside c.loop-record.invariant c.in-Some.ensures.steps).0
+
+pub slice_bounds-body-start : goal.slice_bounds-body-start
+slice_bounds-body-start c = (Counting-inside c.loop-record.invariant c.in-Some.ensures.steps).0
+
+pub slice_bounds-body-end : goal.slice_bounds-body-end
+slice_bounds-body-end c = (Counting-inside c.loop-record.invariant c.in-Some.ensures.steps).1
+
+pub loop-record-preserved : goal.loop-record-preserved
+loop-record-preserved c =
+    Counting-turn c.loop-record.invariant c.in-Some.ensures.steps c.record_triangles.ensures c.awaits_indices-awaited.ensures c.saturating_add-total.ensures
 
 pub returns : goal.returns
-returns c = Counting-end c.loop-found.invariant (MatchOption-at_none _ _ c.in_default.is c.record_at.ensures)
+returns c = Counting-end c.loop-record.invariant c.in-None.ensures.steps.0

@@ -1,10 +1,20 @@
--- Its lists are those of the block.
-use native.Mathlib.Omega.{arith}
-use Rattle.halls.proofs.read.ModelLaws.{lists_of}
+-- The record, and the geometries right behind it.
+use Rattle.std.proofs.Common.{arith}
+use Rattle.halls.proofs.read.WritingModel.{model-reach, model-written}
 use Rattle.halls.proofs.read.write.write_model.Goals as goal
 
-pub write_lists-requires : goal.write_lists-requires
-write_lists-requires c =
-    let s = c.args.limited.now.reader.now in
-    let lists = lists_of s c.args.raw.now _ _ _ c.u16_le-count.ensures c.u64_le.ensures c.u64_le-2.ensures (omega arith) c.list_bytes_or_empty-pointers.ensures c.list_bytes_or_empty-mapping.ensures in
-    (lists, c.requires)
+pub put_model-requires : goal.put_model-requires
+put_model-requires c =
+    let mapping = c.mapping-mapping.ensures in
+    (omega (arith, model-reach c.args.model.now _ mapping.numbers mapping.even, c.requires), omega (arith, mapping.few), mapping.even)
+
+pub write_geometries-requires : goal.write_geometries-requires
+write_geometries-requires c =
+    let mapping = c.mapping-mapping.ensures in
+    rw c.geometries.ensures.those (omega (arith, model-reach c.args.model.now _ mapping.numbers mapping.even, c.requires))
+
+pub returns : goal.returns
+returns c =
+    let mapping = c.mapping-mapping.ensures in
+    model-written c.args.model.now _ mapping.numbers mapping.even c.args.out.now c.args.at c.numbers.ensures.binding c.numbers.ensures.mask c.put_model.ensures
+    (rw c.geometries.ensures.those at c.write_geometries.ensures) c.requires

@@ -1,52 +1,15 @@
--- Each turn writes the model behind one pointer right behind what was written, or nothing where its block does not resolve.
-use Rattle.std.specs.Prelude.{None}
-use mathlib.Core.Path.{◌≡◌, sym, ap, ◌∙◌}
-use mathlib.Core.List.{List, ◌++◌}
-use Prim.Native.Nat.{ℕ, suc, ◌+◌}
-use native.Mathlib.Omega.{arith}
-use lib.ListN.{length}
-use Rattle.sections.specs.Address.{resolved}
-use Rattle.sections.specs.Edit.{overwrite}
-use Rattle.halls.specs.Inner.View.{model_in}
-use Rattle.halls.specs.List.{Model}
-use Rattle.halls.proofs.read.WritingModel.{model_in_lem}
-use Rattle.halls.proofs.read.Walks.{models_left, models-none, models-next, models-skip}
-use Rattle.halls.proofs.read.WritingItems.{items-start, items_room, items_turn, items_skip, items_place, items-end}
-use Rattle.halls.proofs.read.write.write_models.Goals.{After-u64_le, in-Some, in_default}
+-- Each turn writes the next model right behind what was written.
+use Rattle.halls.proofs.read.WritingItems.{items-start, items_room, items_turn, items-end}
 use Rattle.halls.proofs.read.write.write_models.Goals as goal
 
-module _ (c : After-u64_le) where
-  abbrev left : ℕ → List Model
-  left i = models_left c.args.limited.now.reader.now c.args.pointers.now i
-
-  next : left c.loop-i.i ≡ model_in c.args.limited.now.reader.now (resolved c.args.limited.now.reader.now c.u64_le.result 0x30) ++ left (suc c.loop-i.i)
-  next = models-next c.args.limited.now.reader.now c.args.pointers.now c.loop-i.i _ c.loop-i-test.true c.u64_le.ensures
-
-  none : resolved c.args.limited.now.reader.now c.u64_le.result 0x30 ≡ None → left c.loop-i.i ≡ left (suc c.loop-i.i)
-  none e = models-skip c.args.limited.now.reader.now c.args.pointers.now c.loop-i.i _ c.loop-i-test.true c.u64_le.ensures e
-
-pub loop-i-init : goal.loop-i-init
-loop-i-init c = items-start _ _ _ _ c.requires.1
+pub loop-model-init : goal.loop-model-init
+loop-model-init c = rw c.into_iter-model-iterator.ensures.into_iter_gives (items-start _ _ _ _)
 
 pub write_model-next-requires : goal.write_model-next-requires
-write_model-next-requires c =
-    let k = (goal.at.write_model-next-requires c).After-u64_le in
-    omega (arith, items_room c.loop-i.invariant _ (next k), ap length (model_in_lem _ _ _ (sym c.in-Some.ensures)))
+write_model-next-requires c = items_room c.loop-model.invariant c.requires c.in-Some.ensures.steps
 
-pub loop-i-preserved : goal.loop-i-preserved
-loop-i-preserved c =
-    let k = (goal.at.loop-i-preserved c).After-u64_le in
-    elim c.match-resolve.branch [
-      | in-Some w ↦
-          let same = model_in_lem _ _ _ (sym w.in-Some.ensures) in
-          let put = w.write_model-next.ensures in
-          items_turn c.loop-i.invariant _ (next k) (w.next-is ∙ put.0 ∙ ap (λ (x : List ℕ). c.loop-i.next + length x) same)
-          (w.out-is ∙ put.1 ∙ ap (overwrite c.loop-i.out c.loop-i.next) same)
-      | in_default w ↦ rw (w.next-is, w.out-is) (items_skip c.loop-i.invariant (none k (sym (rw w.in_default.is at c.resolve.ensures))))
-    ]
+pub loop-model-preserved : goal.loop-model-preserved
+loop-model-preserved c = items_turn c.loop-model.invariant c.requires c.in-Some.ensures.steps c.write_model-next.ensures
 
 pub returns : goal.returns
-returns c =
-    let w = c.loop-i.invariant in
-    let none = models-none c.args.limited.now.reader.now c.args.pointers.now c.loop-i.i c.loop-i-test.false in
-    (items_place w none, items-end w none)
+returns c = items-end c.loop-model.invariant c.in-None.ensures.steps.0

@@ -1,8 +1,7 @@
--- Each turn writes what is behind one pointer right behind what was written.
+-- Each turn writes the next model right behind what was written.
 use Rattle.halls.specs.List.{write_model}
-use Rattle.halls.proofs.read.Walks.{models_left}
 use Rattle.halls.proofs.read.WritingItems.{WritingItems}
 use Rattle.halls.proofs.read.write.write_models.Given as goal
 
-abbrev pub invariant-loop-i : goal.invariant-loop-i
-invariant-loop-i l = WritingItems write_model (models_left l.limited.reader.now l.pointers) l.initial.out l.at l.out l.i l.next
+abbrev pub invariant-loop-model : goal.invariant-loop-model
+invariant-loop-model l = WritingItems write_model l.fn.models l.model-iterator l.fn.out l.at l.out l.next

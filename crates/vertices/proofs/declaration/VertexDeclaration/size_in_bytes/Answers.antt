@@ -1,6 +1,5 @@
 -- The sizes added up and those of the components still to come are the total.
 use mathlib.Core.Path.{◌∙◌}
-use native.Mathlib.Omega.{arith}
 use Rattle.vertices.specs.Declaration.{components_of, total_size}
 use Rattle.vertices.proofs.ComponentSizes.{summing_start, summing_set, Summing-clear, Summing-end}
 use Rattle.vertices.proofs.declaration.VertexDeclaration.size_in_bytes.Goals as goal
@@ -9,9 +8,6 @@ use Rattle.vertices.proofs.declaration.VertexDeclaration.size_in_bytes.Goals.{th
 pub loop-index-init : goal.loop-index-init
 unfolding total_size components_of
 loop-index-init c = summing_start _ _
-
-pub overflow_add-total : goal.overflow_add-total
-overflow_add-total c = omega (arith, c.loop-index.invariant.walking.room)
 
 pub loop-index-preserved : goal.loop-index-preserved
 loop-index-preserved c =

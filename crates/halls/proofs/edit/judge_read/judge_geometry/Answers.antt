@@ -1,0 +1,11 @@
+-- The rank of its first failing check, its part of the image and its records, by the vertex bytes and indices that it shows.
+use Rattle.std.proofs.Common.{◌∙◌, sym, ap}
+use Rattle.halls.specs.Inner.Taking.{as_halls, geometry_taken, lowest_in}
+use Rattle.halls.specs.List.{Geometry}
+use Rattle.halls.proofs.edit.ShownLaws.{view-taken}
+use Rattle.halls.proofs.edit.judge_read.judge_geometry.Goals as goal
+
+pub returns : goal.returns
+returns c =
+    view-taken c.geometry.inside.limited.reader.now c.geometry.inside.view c.geometry.invariant.buffer (c.geometry_lowest.ensures ∙ ap (λ (g : Geometry). lowest_in (as_halls g)) (sym c.geometry.view_is)) c.content_seen-content.ensures.0 c.held_seen-count.ensures.0
+    ∙ ap geometry_taken c.geometry.view_is

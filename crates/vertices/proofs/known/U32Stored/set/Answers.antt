@@ -1,0 +1,11 @@
+-- The number's bytes take the place of those that stood there.
+use mathlib.Core.Path.{◌∙◌, sym}
+use native.Mathlib.Omega.{arith}
+use Rattle.sections.proofs.LeLaws.{length-bytes}
+use Rattle.vertices.proofs.RunLaws.{bytes_four, overwrite_part}
+use Rattle.vertices.proofs.known.U32Stored.set.Goals as goal
+
+pub returns : goal.returns
+returns c =
+    let written = c.copy_from_slice.ensures.after ∙ c.to_le_bytes.ensures ∙ sym (bytes_four c.args.self) in
+    overwrite_part _ _ _ written (length-bytes 4 _ ∙ omega arith)
