@@ -1,7 +1,9 @@
 -- Attributes as records of 20 bytes: their lengths, a loop that writes them, and the answer of the vertex layer as an outcome.
 use Rattle.std.proofs.Common.{◌≡◌, refl, sym, ap, subst, ◌∙◌, Bool, true, false, cond, List, [], ◌∷◌, map, ℕ, suc, ◌+◌, ◌*◌, ◌/◌, ◌%◌, ◌≤◌, ◌<◌, length, ltb, Result, Ok, Err, arith, length-append}
+use lib.Dec.{T}
 use native.Mathlib.Nat.{add_comm, suc-mul}
 use lib.ListN.{length-map}
+use Rattle.std.specs.Result.{MatchResult, is_ok}
 use Rattle.sections.specs.Edit.{overwrite}
 use Rattle.sections.specs.Le.{bytes}
 use Rattle.sections.proofs.EditLaws.{overwrite-length, overwrite-none, overwrite-then}
@@ -20,6 +22,13 @@ use Rattle.halls.specs.List.{each}
 use Rattle.halls.specs.Outcome.{refusal}
 use Rattle.exports.specs.Attributes.{padded_bytes, attribute_bytes, recorded, attributes_outcome}
 use Rattle.exports.specs.Told.{Told, fitting}
+
+-- ---- an answer whose error was changed
+
+-- what it held stands in the answer before
+pub ok_before : {A E F : Type 0} (r : Result A E) (t : Result A F) (a : A) (Q : E → Type 0) → is_ok t ≡ is_ok r → MatchResult r (λ x. t ≡ Ok x) Q → t ≡ Ok a → r ≡ Ok a
+ok_before (Ok x) t a Q v m e = let same : t ≡ Ok x = m in cc
+ok_before (Err y) t a Q v m e = let z : true ≡ false = sym (ap is_ok e) ∙ v in absurd (subst T z tt)
 
 -- ---- one record
 

@@ -10,6 +10,7 @@ use Rattle.vertices.specs.declared.attribute.VertexAttributeValue.{VertexAttribu
 use Rattle.vertices.specs.declared.attribute.VertexAttributeValue.TheVariants.{One, Two, Three, Four, Bytes, Unsupported}
 use Rattle.vertices.specs.declared.attributes.AttributeError.{AttributeError}
 use Rattle.vertices.specs.declared.declaration.VertexDeclaration.{VertexDeclaration}
+use Rattle.vertices.specs.declared.vertices.Vertices.{Vertices}
 use Rattle.halls.specs.List.{each}
 use Rattle.halls.specs.Outcome.{Outcome, refusal}
 use Rattle.halls.specs.declared.answer.Refusal.{Refusal}
@@ -42,6 +43,9 @@ recorded room (Err e) = refusal (attribute_check e) 0
 -- the attributes of the vertex `index` of `count` into `room` bytes: checks 8, 9 and 10
 abbrev pub attributes_outcome : List ℕ → ℕ → ℕ → VertexDeclaration → ℕ → ℕ → Outcome
 attributes_outcome s stride count d index room = recorded room (attributes_of s stride count d index)
+
+abbrev pub vertex_outcome : Vertices → ℕ → ℕ → Outcome
+vertex_outcome v index room = attributes_outcome v.«data».now v.stride v.count v.declaration index room
 
 -- an error as a refusal of its check
 abbrev pub attribute_refusal : AttributeError → Refusal

@@ -1,13 +1,16 @@
 -- A located vertex buffer as bytes: layout u8, stride u16, count u32, data pointer u64, info pointer u64, section u8, offset u64, and the declaration's 16
 -- bytes where one is stored.
 use Rattle.std.specs.Prelude.{List, [], ◌++◌, ℕ, Option, None, Some}
+use Rattle.sections.specs.Address.{Sections}
 use Rattle.sections.specs.Le.{bytes}
 use Rattle.sections.specs.declared.lookup.Located.{Located}
 use Rattle.sections.specs.declared.lookup.Located.TheVariants.{System, Graphics}
-use Rattle.vertices.specs.Buffer.{layout_number}
+use Rattle.vertices.specs.Buffer.{layout_number, vertex_buffer_at}
 use Rattle.vertices.specs.Declaration.{declaration_bytes}
 use Rattle.vertices.specs.declared.buffer.VertexBuffer.{VertexBuffer}
 use Rattle.vertices.specs.declared.declaration.VertexDeclaration.{VertexDeclaration}
+use Rattle.halls.specs.Outcome.{Outcome}
+use Rattle.exports.specs.Told.{fitting}
 
 -- 0 for system and 1 for graphics; the data of a buffer that was found lies in one of them
 abbrev pub section_number : Located → ℕ
@@ -39,3 +42,7 @@ buffer_bytes b = head_bytes b ++ place_bytes b.«data» ++ stored_bytes b.declar
 abbrev pub found_bytes : Option VertexBuffer → List ℕ
 found_bytes (Some b) = buffer_bytes b
 found_bytes None = []
+
+-- of the buffer behind an address into `room` bytes; pointer, count and stride are those of the geometry's block
+abbrev pub buffer_outcome : Sections → (va pointer count stride room : ℕ) → Outcome
+buffer_outcome s va pointer count stride room = fitting room (found_bytes (vertex_buffer_at s va pointer count stride))

@@ -1,9 +1,9 @@
-// The attributes of one vertex, written as records of 20 bytes.
+// The attributes of one vertex, written as records of 20 bytes. The C interface passes every number as an argument of its own, so that the function has eight.
 ghost use Rattle.std.specs.Prelude.{◌≡◌, ◌+◌, ◌*◌, ◌≤◌, ◌<◌, length};
 ghost use Rattle.sections.specs.Edit.{overwrite};
 ghost use Rattle.vertices.specs.Unified.{vec4_bytes};
 ghost use Rattle.halls.specs.List.{each};
-ghost use Rattle.exports.specs.Attributes.{padded_bytes, attribute_bytes, attributes_outcome};
+ghost use Rattle.exports.specs.Attributes.{padded_bytes, attribute_bytes, attributes_outcome, vertex_outcome};
 ghost use Rattle.exports.specs.Passed.{declared};
 ghost use Rattle.exports.specs.Told.{Answered, Told};
 
@@ -13,7 +13,7 @@ use halls::{Refusal, room};
 use sections::{put_u8_le, put_u16_le, put_u32_le};
 use vertices::{
     Attributes, Bytes4, F32, Vec4, VertexAttribute, VertexAttributeValue, VertexDeclaration,
-    read_vertex_attributes,
+    Vertices, read_vertex_attributes,
 };
 
 // Bytes of a record.
@@ -32,25 +32,19 @@ pub extern "C" fn calicofern_vertex_attributes(
 ) -> u8
     ensures { Told (attributes_outcome «data».now stride count (declared flags types) index (length out.old)) out.old result out.new size.new }
 {
-    let declaration = declaration(flags, types);
-    let answer = write_attributes(data, stride, count, declaration, index, out);
-    told(answer, size)
+    let vertices = Vertices {
+        data,
+        stride,
+        count,
+        declaration: declaration(flags, types),
+    };
+    told(write_attributes(vertices, index, out), size)
 }
 
-fn write_attributes(
-    data: &[u8],
-    stride: u16,
-    count: u32,
-    declaration: VertexDeclaration,
-    index: u64,
-    out: &mut [u8],
-) -> Result<u64, Refusal>
-    ensures { Answered (attributes_outcome «data».now stride count declaration index (length out.old)) out.old result out.new }
+fn write_attributes(vertices: Vertices, index: u64, out: &mut [u8]) -> Result<u64, Refusal>
+    ensures { Answered (vertex_outcome vertices.entry index (length out.old)) out.old result out.new }
 {
-    let attributes = match read_vertex_attributes(data, stride, count, declaration, index) {
-        Ok(attributes) => attributes,
-        Err(error) => return Err(error.refusal()),
-    };
+    let attributes = read_vertex_attributes(vertices, index).map_err(|e| e.refusal())?;
     let needed = attributes.len() * RECORD;
     room(10, out.len(), needed as u64)?;
     put_attributes(out, attributes);

@@ -1,9 +1,8 @@
-// The vertex buffer of a geometry, located and written as bytes.
+// The vertex buffer of a geometry, located and written as bytes. The C interface passes every number as an argument of its own, so that the function has eight.
 ghost use Rattle.std.specs.Prelude.{◌≡◌, ◌+◌, ◌≤◌, length};
 ghost use Rattle.sections.specs.Address.{sections};
 ghost use Rattle.sections.specs.Edit.{overwrite};
-ghost use Rattle.vertices.specs.Buffer.{vertex_buffer_at};
-ghost use Rattle.exports.specs.Buffers.{section_number, offset_of, stored_bytes, head_bytes, place_bytes, buffer_bytes, found_bytes};
+ghost use Rattle.exports.specs.Buffers.{section_number, offset_of, stored_bytes, head_bytes, place_bytes, buffer_bytes, found_bytes, buffer_outcome};
 ghost use Rattle.exports.specs.Told.{Answered, Told, fitting};
 
 use crate::told::told;
@@ -22,7 +21,7 @@ pub extern "C" fn calicofern_vertex_buffer<'a>(
     out: &mut [u8],
     size: &mut u64,
 ) -> u8
-    ensures { Told (fitting (length out.old) (found_bytes (vertex_buffer_at (sections system.now graphics.now) va inline_pointer inline_count inline_stride))) out.old result out.new size.new }
+    ensures { Told (buffer_outcome (sections system.now graphics.now) va inline_pointer inline_count inline_stride (length out.old)) out.old result out.new size.new }
 {
     let reader = ResReader::new(system, graphics);
     let found = vertices::parse_vertex_buffer_at(
@@ -38,10 +37,10 @@ pub extern "C" fn calicofern_vertex_buffer<'a>(
 fn write_found(found: Option<VertexBuffer>, out: &mut [u8]) -> Result<u64, Refusal>
     ensures { Answered (fitting (length out.old) (found_bytes found)) out.old result out.new }
 {
-    match found {
-        Some(buffer) => write_buffer(buffer, out),
-        None => Ok(0),
-    }
+    let Some(buffer) = found else {
+        return Ok(0);
+    };
+    write_buffer(buffer, out)
 }
 
 fn write_buffer(buffer: VertexBuffer, out: &mut [u8]) -> Result<u64, Refusal>
@@ -92,14 +91,11 @@ fn put_stored(out: &mut [u8], at: usize, declaration: Option<VertexDeclaration>)
     }
 }
 
+#[tactic(auto, using(vertices::proofs::DeclarationLaws::declaration_length_lem))]
 fn stored_length(declaration: Option<VertexDeclaration>) -> usize
     ensures { (result ≡ length (stored_bytes declaration)) × (result ≤ 16) }
 {
-    // Not by `map_or`: what its closure gives is out of the answers' reach.
-    match declaration {
-        Some(_) => 16,
-        None => 0,
-    }
+    declaration.map_or(0, |_| 16)
 }
 
 // The section's number, and the offset in it.

@@ -9,9 +9,7 @@ pub fn declaration(flags: u32, types: u64) -> VertexDeclaration
 {
     VertexDeclaration {
         flags,
-        stride: 0,
-        unknown_6h: 0,
-        count: 0,
         types,
+        ..Default::default()
     }
 }

@@ -1,12 +1,13 @@
-// The calls that edit the hall in the first n bytes of a lent buffer. The C interface passes every number as an argument of its own.
+// The calls that edit the hall in the first n bytes of a lent buffer. The C interface passes every number as an argument of its own: so some functions have
+// more than seven parameters, and a semantic and a value's shape are numbers.
 ghost use Rattle.sections.specs.Address.{sections};
 ghost use Rattle.halls.specs.Calls.{add_model, add_geometry, remove_geometry, remove_model, set_attribute, replace_indices, take_in};
 ghost use Rattle.exports.specs.Editing.{ToldStep};
-ghost use Rattle.exports.specs.Passed.{passed_value};
+ghost use Rattle.exports.specs.Passed.{passed_geometry, passed_value};
 
 use crate::told::told;
 use crate::values::passed_value;
-use halls::{AttributeChange, GivenGeometry};
+use halls::{AttributeChange, GeometryId, GivenGeometry};
 use sections::ResReader;
 use vertices::VertexDeclaration;
 
@@ -39,7 +40,7 @@ pub extern "C" fn calicofern_add_geometry(
     indices: &[u32],
     size: &mut u64,
 ) -> u8
-    ensures { ToldStep (add_geometry (record { shader = shader; declaration = record { flags = flags; stride = declared_stride; unknown_6h = unknown_6h; count = declared_count; types = types }; stride = stride; count = count; content = content.now; indices = indices.now })) hall.old n result hall.new size.new }
+    ensures { ToldStep (add_geometry (passed_geometry shader flags declared_stride unknown_6h declared_count types stride count content.now indices.now)) hall.old n result hall.new size.new }
 {
     let declaration = VertexDeclaration {
         flags,
@@ -69,7 +70,11 @@ pub extern "C" fn calicofern_remove_geometry(
 ) -> u8
     ensures { ToldStep (remove_geometry model geometry) hall.old n result hall.new size.new }
 {
-    told(halls::remove_geometry(hall, n, model, geometry), size)
+    let removed = GeometryId {
+        model,
+        index: geometry,
+    };
+    told(halls::remove_geometry(hall, n, removed), size)
 }
 
 #[unsafe(no_mangle)]
@@ -102,8 +107,10 @@ pub extern "C" fn calicofern_set_attribute(
     ensures { ToldStep (set_attribute model geometry vertex semantic (passed_value shape x y z w)) hall.old n result hall.new size.new }
 {
     let change = AttributeChange {
-        model,
-        geometry,
+        geometry: GeometryId {
+            model,
+            index: geometry,
+        },
         vertex,
         semantic,
         value: passed_value(shape, x, y, z, w),
@@ -122,10 +129,11 @@ pub extern "C" fn calicofern_replace_indices(
 ) -> u8
     ensures { ToldStep (replace_indices model geometry indices.now) hall.old n result hall.new size.new }
 {
-    told(
-        halls::replace_indices(hall, n, model, geometry, indices),
-        size,
-    )
+    let replaced = GeometryId {
+        model,
+        index: geometry,
+    };
+    told(halls::replace_indices(hall, n, replaced, indices), size)
 }
 
 #[unsafe(no_mangle)]

@@ -7,7 +7,8 @@ ghost use Rattle.exports.specs.Unify.{unify_refusal};
 use halls::Refusal;
 use vertices::{AttributeError, NeedsBytes, UnifyError};
 
-// A library's error, as the number of the check that failed, and the bytes that an output which is too short would have to have.
+// A library's error, as the number of the check that failed, and the bytes that an output which is too short would have to have. A trait of its own for what
+// `Into<Refusal>` says: `From` cannot be implemented here, since the errors and `Refusal` are of other crates.
 pub trait Refused: Copy {
     ghost use Rattle.halls.specs.declared.answer.Refusal.{Refusal};
 

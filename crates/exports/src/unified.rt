@@ -6,6 +6,7 @@ ghost use Rattle.exports.specs.Unify.{unified_outcome};
 
 use crate::declared::declaration;
 use crate::told::told;
+use vertices::{Vertices, unified_vertices};
 
 #[unsafe(no_mangle)]
 pub extern "C" fn calicofern_unified_vertices(
@@ -19,9 +20,11 @@ pub extern "C" fn calicofern_unified_vertices(
 ) -> u8
     ensures { Told (unified_outcome (declared flags types) «data».now stride count (length out.old)) out.old result out.new size.new }
 {
-    let declaration = declaration(flags, types);
-    told(
-        vertices::unified_vertices(data, stride, count, declaration, out),
-        size,
-    )
+    let vertices = Vertices {
+        data,
+        stride,
+        count,
+        declaration: declaration(flags, types),
+    };
+    told(unified_vertices(vertices, out), size)
 }

@@ -1,4 +1,5 @@
-// An attribute's value of plain numbers.
+// An attribute's value of plain numbers. The test programs' `value_in` is the same by shape, of a row's bytes: one function for both would be of the crate
+// `vertices`, the one below the two, and a public one that nothing else needs.
 ghost use Rattle.std.specs.Prelude.{◌≡◌};
 ghost use Rattle.exports.specs.Passed.{passed_bytes, passed_value};
 

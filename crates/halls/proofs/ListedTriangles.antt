@@ -32,7 +32,7 @@ use Rattle.std.specs.Prelude.{Result, Ok}
 use Rattle.halls.specs.declared.answer.Refusal.{Refusal}
 use Rattle.halls.proofs.edit.FittingLaws.{SmallGeometry, read_small}
 use Rattle.halls.proofs.edit.ReadEach.{each-model, model-each}
-use Rattle.halls.proofs.edit.ReadFew.{read-few}
+use Rattle.halls.proofs.read.ReadFew.{read-few}
 use Rattle.halls.proofs.format.BodyLaws.{AllBytes}
 use Rattle.halls.proofs.format.TriangleLaws.{triangles-written}
 use Rattle.halls.proofs.read.ReadBytes.{IfThere, there-map, there_or, there-cond, resolved-below}

@@ -7,9 +7,9 @@ pub mod ScanLaws
 pub mod JudgingLaws
 pub mod SeekLaws
 pub mod MarkLaws
-pub mod WordLaws
 pub mod FoundLaws
 pub mod SpotLaws
 pub mod ToldLaws
+pub mod PlacedLaws
 pub mod CutLaws
 pub mod HallSizeLaws

@@ -10,8 +10,8 @@ pub mod RemovedGeometry
 pub mod IndicesWritten
 pub mod NewIndices
 pub mod AddedGeometry
+pub mod LastModel
 pub mod ReadEach
-pub mod ReadFew
 pub mod ShownLaws
 pub mod TakingItems
 pub mod TakingLaws

@@ -7,3 +7,4 @@ pub mod FrontLaws
 pub mod RecordBytes
 pub mod BodyLaws
 pub mod ParsingLaws
+pub mod WordLaws

@@ -1,6 +1,8 @@
 -- Laws about reading a drawable: what both passes see, and that they see the same.
 pub mod ViewLaws
 pub mod EachLaws
+pub mod PointerLists
+pub mod Walks
 pub mod EntryLaws
 pub mod ReadingLaws
 pub mod ReadBytes
@@ -14,5 +16,6 @@ pub mod ViewRecords
 pub mod WritingItems
 pub mod StoredLaws
 pub mod SecondPass
+pub mod ReadFew
 pub mod WritingModel
 pub mod ListingLaws

@@ -2,6 +2,7 @@
 pub mod Small
 pub mod View
 pub mod Measure
+pub mod Measured
 pub mod HallRecords
 pub mod Order
 pub mod Judging

@@ -6,5 +6,5 @@ pub mod lists;
 pub mod order;
 pub mod pass;
 pub mod scan;
+pub mod sought;
 pub mod triangle;
-pub mod words;

@@ -1,7 +1,8 @@
 // Halls: the list of a drawable's models and geometries, the check that makes it a hall, and the calls that edit one.
 //
 // A hall is lent as a buffer and n, not as a part of a slice: a call that lengthens it writes beyond n, and C lends it so. What only reads it takes the
-// same two, so that every call asks of n alike.
+// same two, so that every call asks of n alike. In the same way what puts bytes takes a buffer and a place (`out`, `at`), also in the crate of images: its clause
+// says what the whole buffer is afterwards, where of a part the caller would have to put that together.
 #![tactic(auto)]
 
 mod answer;
@@ -13,6 +14,7 @@ mod read;
 pub use answer::{Refusal, room};
 pub use check::check::{HallSize, hall_check, hall_size};
 pub use check::find::{GeometryPlace, find_geometry, find_model};
+pub use check::sought::GeometryId;
 pub use edit::add_geometry::{GivenGeometry, add_geometry};
 pub use edit::add_model::add_model;
 pub use edit::remove::{remove_geometry, remove_model};

@@ -5,7 +5,7 @@ use std::io::{self, Write};
 use testing::{Row, checksum, first, zeros};
 
 // How many bytes are asked about, the bytes lent, by their number and checksum, and the verdict with the check's number in decimal.
-fn checked(out: &mut impl Write, lent: &[u8], row: Row) -> io::Result<()> {
+fn verdict(out: &mut impl Write, lent: &[u8], row: Row) -> io::Result<()> {
     write!(out, " {:x} {:x} {:x}", row.a, lent.len(), checksum(lent))?;
     match hall_check(lent, row.a as usize) {
         Ok(()) => writeln!(out, ": sound"),
@@ -14,15 +14,15 @@ fn checked(out: &mut impl Write, lent: &[u8], row: Row) -> io::Result<()> {
 }
 
 // The row's bytes are lent.
-pub fn check_row(out: &mut impl Write, row: Row, data: &[u8]) -> io::Result<()> {
+pub fn check_row(out: &mut impl Write, row: Row) -> io::Result<()> {
     write!(out, "check")?;
-    checked(out, data, row)
+    verdict(out, row.data, row)
 }
 
 // b bytes, at most 589,824, made by e runs, are lent.
-pub fn long_check_row(out: &mut impl Write, row: Row, data: &[u8]) -> io::Result<()> {
+pub fn long_check_row(out: &mut impl Write, row: Row) -> io::Result<()> {
     let mut list = zeros::<SECTION>();
-    put_row(&mut list, data, row.e as usize);
+    put_row(&mut list, row);
     write!(out, "long check")?;
-    checked(out, first(&list, row.b as usize), row)
+    verdict(out, first(&list, row.b as usize), row)
 }

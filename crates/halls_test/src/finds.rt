@@ -2,6 +2,7 @@
 use crate::buffers::{HALL, put_row};
 use crate::calls::hall_buffer;
 use halls::GeometryPlace;
+use replay::geometry_id;
 use std::fmt;
 use std::io::{self, Write};
 use testing::{Row, first, numbers, zeros};
@@ -23,28 +24,28 @@ impl fmt::Display for Finder {
 }
 
 // In a buffer as the calls have it.
-pub fn find_row(out: &mut impl Write, finder: Finder, row: Row, data: &[u8]) -> io::Result<()> {
-    let b = hall_buffer(data, 32);
+pub fn find_row(out: &mut impl Write, finder: Finder, row: Row) -> io::Result<()> {
+    let b = hall_buffer(row, 32);
     write!(out, "{finder}")?;
-    found(out, finder, first(&b, row.b as usize), row)
+    find(out, finder, first(&b, row.b as usize), row)
 }
 
 // In a hall made by e runs.
-pub fn crowded_row(out: &mut impl Write, finder: Finder, row: Row, data: &[u8]) -> io::Result<()> {
+pub fn crowded_row(out: &mut impl Write, finder: Finder, row: Row) -> io::Result<()> {
     let mut b = zeros::<HALL>();
-    put_row(&mut b, data, row.e as usize);
+    put_row(&mut b, row);
     write!(out, "crowded {finder}")?;
-    found(out, finder, first(&b, row.b as usize), row)
+    find(out, finder, first(&b, row.b as usize), row)
 }
 
-fn found(out: &mut impl Write, finder: Finder, lent: &[u8], row: Row) -> io::Result<()> {
+fn find(out: &mut impl Write, finder: Finder, lent: &[u8], row: Row) -> io::Result<()> {
     match finder {
-        Finder::Model => model_in(out, lent, row),
-        Finder::Geometry => geometry_in(out, lent, row),
+        Finder::Model => find_model(out, lent, row),
+        Finder::Geometry => find_geometry(out, lent, row),
     }
 }
 
-fn model_in(out: &mut impl Write, lent: &[u8], row: Row) -> io::Result<()> {
+fn find_model(out: &mut impl Write, lent: &[u8], row: Row) -> io::Result<()> {
     numbers(out, row, 3)?;
     match halls::find_model(lent, row.a as usize, row.c) {
         Some(place) => writeln!(out, " at {place:x}"),
@@ -52,9 +53,9 @@ fn model_in(out: &mut impl Write, lent: &[u8], row: Row) -> io::Result<()> {
     }
 }
 
-fn geometry_in(out: &mut impl Write, lent: &[u8], row: Row) -> io::Result<()> {
+fn find_geometry(out: &mut impl Write, lent: &[u8], row: Row) -> io::Result<()> {
     numbers(out, row, 4)?;
-    match halls::find_geometry(lent, row.a as usize, row.c, row.d) {
+    match halls::find_geometry(lent, row.a as usize, geometry_id(row)) {
         Some(p) => places(out, p)?,
         None => write!(out, " absent")?,
     }

@@ -12,23 +12,23 @@ mod finds;
 use finds::Finder;
 use replay::Call;
 use std::io::{self, BufReader, BufWriter, Write};
-use testing::{Row, each_row, row_data};
+use testing::{Row, each_row};
 
 // The kinds of calls are those of `replay`. This is the one place that reads the others' numbers: an enum would be a second table beside it.
-fn run(out: &mut impl Write, row: Row, data: &[u8]) -> io::Result<()> {
+fn run(out: &mut impl Write, row: Row) -> io::Result<()> {
     if let Ok(call) = Call::try_from(row.kind) {
-        return calls::call_row(out, call, row, data);
+        return calls::call_row(out, call, row);
     }
     match row.kind {
-        0 => drawables::list_row(out, row, data),
-        1 => drawables::long_row(out, row, data),
+        0 => drawables::list_row(out, row),
+        1 => drawables::long_row(out, row),
         2 => drawables::binding_row(out, row),
-        3 => checks::check_row(out, row, data),
-        4 => checks::long_check_row(out, row, data),
-        9 => finds::find_row(out, Finder::Model, row, data),
-        10 => finds::find_row(out, Finder::Geometry, row, data),
-        13 => finds::crowded_row(out, Finder::Model, row, data),
-        14 => finds::crowded_row(out, Finder::Geometry, row, data),
+        3 => checks::check_row(out, row),
+        4 => checks::long_check_row(out, row),
+        9 => finds::find_row(out, Finder::Model, row),
+        10 => finds::find_row(out, Finder::Geometry, row),
+        13 => finds::crowded_row(out, Finder::Model, row),
+        14 => finds::crowded_row(out, Finder::Geometry, row),
         _ => writeln!(out, "unknown row"),
     }
 }
@@ -40,7 +40,7 @@ fn main(rt: HostRuntime) -> io::Result<()> {
     let mut out = BufWriter::new(alloc, io::writer(&rt))?;
     each_row(&mut input, |input, row| {
         let mut room = [0; 4096];
-        run(&mut out, row, row_data(input, &mut room)?)
+        run(&mut out, row.with_data(input, &mut room)?)
     })?;
     out.flush()
 }

@@ -17,6 +17,7 @@ use Rattle.halls.specs.declared.answer.Refusal.{Refusal}
 use Rattle.halls.specs.Verdict.{Sound}
 use Rattle.images.specs.Image.{VertexBlock, base, addresses, filled, laid, geometry_block_bytes, geometry_image, model_image, pointer_to, vertex_block_bytes}
 use Rattle.images.specs.Saving.{saved_by}
+use Rattle.images.specs.declared.items.Items.{Items}
 use Rattle.images.specs.declared.parts.Measured.{Measured}
 
 -- ---- k items from the front on, by the one at the front and its length
@@ -108,28 +109,6 @@ pub record Room (at n : ℕ) (out : List ℕ) : Type 0 where
   pub fits : at + n ≤ length out
   pub low : at + n ≤ image_limit
 
--- k geometries are whole in s, and so are k models; their images have room
-pub record GeometriesRoom (k : ℕ) (s : List ℕ) (at : ℕ) (out : List ℕ) : Type 0 where
-  pub within : geometries_length k s ≤ length s
-  pub room : Room at (geometries_size k s) out
-
-pub record ModelsRoom (k : ℕ) (s : List ℕ) (at : ℕ) (out : List ℕ) : Type 0 where
-  pub within : models_length k s ≤ length s
-  pub few : geometry_count (models_from k s) ≤ 16384
-  pub room : Room at (models_size k s) out
-
--- the same, with the images behind the table of their addresses
-pub record GeometriesRoomBehind (k : ℕ) (s : List ℕ) (table at : ℕ) (out : List ℕ) : Type 0 where
-  pub within : geometries_length k s ≤ length s
-  pub room : Room at (geometries_size k s) out
-  pub apart : table + padded (8 * k) ≤ at
-
-pub record ModelsRoomBehind (k : ℕ) (s : List ℕ) (table at : ℕ) (out : List ℕ) : Type 0 where
-  pub within : models_length k s ≤ length s
-  pub few : geometry_count (models_from k s) ≤ 16384
-  pub room : Room at (models_size k s) out
-  pub apart : table + padded (8 * k) ≤ at
-
 -- items of any kind, each known by the list from its front on
 abbrev pub here : List ℕ → List ℕ
 here s = s
@@ -139,10 +118,10 @@ pub record ItemsFollow (len size : List ℕ → ℕ) (image : ℕ → List ℕ �
   pub sized : (at : ℕ) (s : List ℕ) → length (image at s) ≡ size s
   pub fewer : (k : ℕ) (s : List ℕ) → few (suc k) s → few 1 s × few k (drop (len s) s)
 
-pub record RoomBehind (len size : List ℕ → ℕ) (k : ℕ) (s : List ℕ) (table at : ℕ) (out : List ℕ) : Type 0 where
-  pub within : items_length len k s ≤ length s
-  pub room : Room at (sum_of size (items_from here len k s)) out
-  pub apart : table + padded (8 * k) ≤ at
+pub record RoomBehind (len size : List ℕ → ℕ) (i : Items) (out : List ℕ) : Type 0 where
+  pub within : items_length len i.count i.list.now ≤ length i.list.now
+  pub room : Room i.at (sum_of size (items_from here len i.count i.list.now)) out
+  pub apart : i.table + padded (8 * i.count) ≤ i.at
 
 -- ---- items written
 
@@ -161,13 +140,9 @@ WrittenGeometry s at d r t = WrittenItem front_geometry geometry_length geometry
 abbrev pub WrittenModel : List ℕ → ℕ → List ℕ → Measured → List ℕ → Type 0
 WrittenModel s at d r t = WrittenItem front_model model_length model_size model_image s at d r t
 
-pub record WrittenItems {A : Type 0} (front : List ℕ → A) (len : List ℕ → ℕ) (size : A → ℕ) (image : ℕ → A → List ℕ) (k : ℕ) (s : List ℕ) (table at : ℕ) (d : List ℕ) (r : Measured) (t : List ℕ) : Type 0 where
-  pub measured : r ≡ record { «length» = items_length len k s; size = sum_of size (items_from front len k s) }
-  pub bytes : t ≡ with_items size image d table at (items_from front len k s)
-
-pub record WrittenGeometries (k : ℕ) (s : List ℕ) (table at : ℕ) (d : List ℕ) (r : Measured) (t : List ℕ) : Type 0 where
-  pub measured : r ≡ record { «length» = geometries_length k s; size = geometries_size k s }
-  pub bytes : t ≡ with_items geometry_size geometry_image d table at (geometries_from k s)
+pub record WrittenItems {A : Type 0} (front : List ℕ → A) (len : List ℕ → ℕ) (size : A → ℕ) (image : ℕ → A → List ℕ) (i : Items) (d : List ℕ) (r : Measured) (t : List ℕ) : Type 0 where
+  pub measured : r ≡ record { «length» = items_length len i.count i.list.now; size = sum_of size (items_from front len i.count i.list.now) }
+  pub bytes : t ≡ with_items size image d i.table i.at (items_from front len i.count i.list.now)
 
 -- ---- a sound list
 

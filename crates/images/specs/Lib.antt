@@ -3,3 +3,4 @@ pub mod Saving
 pub mod Fronts
 pub mod Runs
 pub mod Claim
+pub mod PutBlocks

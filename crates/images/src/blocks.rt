@@ -1,7 +1,8 @@
 // The blocks of an image: zeros, with the named fields put over them.
 ghost use Rattle.std.specs.Prelude.{◌≡◌, ◌+◌, ◌≤◌, length};
 ghost use Rattle.sections.specs.Edit.{overwrite};
-ghost use Rattle.images.specs.Image.{header_bytes, model_block_bytes, geometry_block_bytes, vertex_block_bytes, index_block_bytes, filled};
+ghost use Rattle.images.specs.Image.{header_bytes};
+ghost use Rattle.images.specs.PutBlocks.{model_bytes, geometry_bytes, vertex_bytes, index_bytes};
 
 use sections::{put_u16_le, put_u32_le, put_u64_le, zero};
 
@@ -29,7 +30,7 @@ pub struct ModelBlock {
 impl ModelBlock {
     pub fn put(self, out: &mut [u8], at: usize)
         requires { at + 0x30 ≤ length out.old }
-        ensures { out.new ≡ overwrite out.old at (model_block_bytes (record { geometries = self.geometries; count = self.count; mapping = self.mapping; binding = self.binding; mask = self.mask })) }
+        ensures { out.new ≡ overwrite out.old at (model_bytes self) }
     {
         zero(out, at, 0x30);
         put_u64_le(out, at + 0x08, self.geometries);
@@ -54,7 +55,7 @@ pub struct GeometryBlock {
 impl GeometryBlock {
     pub fn put(self, out: &mut [u8], at: usize)
         requires { at + 0xA0 ≤ length out.old }
-        ensures { out.new ≡ overwrite out.old at (filled (geometry_block_bytes (record { vertex_block = self.vertex_block; index_block = self.index_block; indices = self.indices; triangles = self.triangles; vertices = self.vertices; stride = self.stride; inline = 0 }))) }
+        ensures { out.new ≡ overwrite out.old at (geometry_bytes self) }
     {
         zero(out, at, 0xA0);
         put_u64_le(out, at + 0x18, self.vertex_block);
@@ -78,7 +79,7 @@ pub struct VertexBlock {
 impl VertexBlock {
     pub fn put(self, out: &mut [u8], at: usize)
         requires { at + 0x80 ≤ length out.old }
-        ensures { out.new ≡ overwrite out.old at (vertex_block_bytes (record { stride = self.stride; content = self.content; count = self.count; info = self.info })) }
+        ensures { out.new ≡ overwrite out.old at (vertex_bytes self) }
     {
         zero(out, at, 0x80);
         put_u16_le(out, at + 0x08, self.stride);
@@ -98,7 +99,7 @@ pub struct IndexBlock {
 impl IndexBlock {
     pub fn put(self, out: &mut [u8], at: usize)
         requires { at + 0x60 ≤ length out.old }
-        ensures { out.new ≡ overwrite out.old at (index_block_bytes (record { count = self.count; size = 0; legacy = self.items; sized = 0 })) }
+        ensures { out.new ≡ overwrite out.old at (index_bytes self) }
     {
         zero(out, at, 0x60);
         put_u32_le(out, at + 0x08, self.count);

@@ -4,12 +4,12 @@ ghost use Rattle.sections.specs.Edit.{overwrite};
 ghost use Rattle.halls.specs.Fronts.{front_geometry};
 ghost use Rattle.halls.specs.ImageSize.{geometry_size};
 ghost use Rattle.images.specs.Fronts.{geometry_length, measured_by, geometry_numbers, vertex_numbers, index_numbers, head_parts};
-ghost use Rattle.images.specs.Fronts.{image_limit, Room, GeometriesRoomBehind, WrittenGeometry, WrittenGeometries};
+ghost use Rattle.images.specs.Fronts.{image_limit, Room, WrittenGeometry};
 ghost use Rattle.images.specs.Image.{filled, geometry_block_bytes, geometry_image, index_block_bytes, vertex_block_bytes};
 
 use crate::blocks::{GeometryBlock, IndexBlock, VertexBlock};
 use crate::indices::put_indices;
-use crate::items::{Item, put_items};
+use crate::items::Item;
 use crate::parts::{Measured, address_of, padded, put_copy};
 use halls::{GeometryShape, shape_of};
 use sections::{copy_into, u16_le, u32_le};
@@ -30,14 +30,6 @@ impl Item for Geometry {
     }
 }
 
-// k geometries from the front of the list on, and their addresses, as parts of the image.
-pub fn put_geometries(out: &mut [u8], table: usize, at: usize, list: &[u8], k: usize) -> Measured
-    requires { GeometriesRoomBehind k list.now table at out.old }
-    ensures { WrittenGeometries k list.now table at out.old result out.new }
-{
-    put_items::<Geometry>(out, table, at, list, k)
-}
-
 // The geometry at the front.
 fn put_geometry(out: &mut [u8], at: usize, front: &[u8]) -> Measured
     requires { (geometry_length front.now ≤ length front.now) × (Room at (geometry_size (front_geometry front.now)) out.old) }
@@ -54,20 +46,20 @@ fn put_geometry(out: &mut [u8], at: usize, front: &[u8]) -> Measured
     measure_geometry(shape)
 }
 
-// How long one with so many vertex bytes and indices is.
+// How long one with so many vertex bytes and indices is. Its length is not `record_bytes` of the shape: that has a `requires`, so halls does not publish it.
 fn measure_geometry(shape: GeometryShape) -> Measured
     requires { (shape.content ≤ 2 ^ 48) × (shape.held ≤ 2 ^ 30) }
     ensures { result ≡ measured_by shape.content shape.held }
 {
     Measured {
         length: 65 + shape.content + 4 * shape.held,
-        size: 0x190 + padded(shape.content) + padded(2 * shape.held),
+        size: 16 * shape.units(),
     }
 }
 
 // Its block, vertex block and declaration.
 fn put_head(out: &mut [u8], at: usize, front: &[u8], index_block: usize)
-    requires { (at + 0x130 ≤ length out.old) × (at ≤ image_limit - 0x130) × (index_block ≤ image_limit) × (42 ≤ length front.now) }
+    requires { (Room at 0x130 out.old) × (index_block ≤ image_limit) × (42 ≤ length front.now) }
     ensures { out.new ≡ overwrite out.old at (head_parts at index_block front.now) }
 {
     put_geometry_numbers(out, at, front, index_block);
@@ -77,7 +69,7 @@ fn put_head(out: &mut [u8], at: usize, front: &[u8], index_block: usize)
 
 // Its block, with zeros behind it.
 fn put_geometry_numbers(out: &mut [u8], at: usize, front: &[u8], index_block: usize)
-    requires { (at + 0xA0 ≤ length out.old) × (at ≤ image_limit - 0xA0) × (index_block ≤ image_limit) }
+    requires { (Room at 0xA0 out.old) × (index_block ≤ image_limit) }
     ensures { out.new ≡ overwrite out.old at (filled (geometry_block_bytes (geometry_numbers at index_block front.now))) }
 {
     let block = GeometryBlock {
@@ -93,7 +85,7 @@ fn put_geometry_numbers(out: &mut [u8], at: usize, front: &[u8], index_block: us
 
 // The vertex block of the geometry at `at`.
 fn put_vertex_numbers(out: &mut [u8], at: usize, front: &[u8])
-    requires { (at + 0x120 ≤ length out.old) × (at ≤ image_limit - 0x130) }
+    requires { Room at 0x130 out.old }
     ensures { out.new ≡ overwrite out.old (at + 0xA0) (vertex_block_bytes (vertex_numbers at front.now)) }
 {
     let block = VertexBlock {
@@ -107,7 +99,7 @@ fn put_vertex_numbers(out: &mut [u8], at: usize, front: &[u8])
 
 // The index block; the indices lie behind it.
 fn put_index_numbers(out: &mut [u8], at: usize, front: &[u8], content: usize)
-    requires { (at + 0x60 ≤ length out.old) × (at ≤ image_limit - 0x60) × (61 + content ≤ length front.now) }
+    requires { (Room at 0x60 out.old) × (61 + content ≤ length front.now) }
     ensures { out.new ≡ overwrite out.old at (index_block_bytes (index_numbers at content front.now)) }
 {
     let block = IndexBlock {

@@ -1,6 +1,10 @@
 // Four-byte indices as two-byte ones, two at a time. The loop tests no range and reads numbers before it writes them: so the compiler
-// narrows several at once. One index a turn takes 2.4 times as long.
-ghost use Rattle.std.specs.Prelude.{◌≡◌, ◌+◌, ◌*◌, ◌%◌, ◌≤◌, ◌<◌, ◌^◌, length};
+// narrows several at once. One index a turn takes 2.4 times as long, where save is to take at most 1.3 of a `memcpy` of the image, 1.8 where
+// most of it is indices (docs/PERFORMANCE.md).
+//
+// How many they are is given beside the bytes: counted from them, each clause has `length raw.now / 4` in the place of n, and that a geometry's
+// indices are those of a part of its bytes is one law more.
+ghost use Rattle.std.specs.Prelude.{◌≡◌, ◌+◌, ◌*◌, ◌%◌, ◌≤◌, ◌^◌, length};
 ghost use Rattle.sections.specs.Edit.{part, overwrite};
 ghost use Rattle.sections.specs.Le.{le, bytes};
 ghost use Rattle.vertices.specs.Runs.{numbers, run};
@@ -67,15 +71,12 @@ fn set_u16(b: &mut [u8], off: usize, v: u16)
     requires { off + 2 ≤ length b.old }
     ensures { b.new ≡ overwrite b.old off (bytes 2 v) }
 {
-    let [low, high] = v.to_le_bytes();
-    b[off] = low;
-    b[off + 1] = high;
+    b[off..off + 2].copy_from_slice(&v.to_le_bytes());
 }
 
 fn set_u32(b: &mut [u8], off: usize, v: u32)
     requires { off + 4 ≤ length b.old }
     ensures { b.new ≡ overwrite b.old off (bytes 4 v) }
 {
-    set_u16(b, off, (v % 65536) as u16);
-    set_u16(b, off + 2, (v / 65536) as u16);
+    b[off..off + 4].copy_from_slice(&v.to_le_bytes());
 }

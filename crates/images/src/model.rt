@@ -4,12 +4,12 @@ ghost use Rattle.sections.specs.Edit.{overwrite};
 ghost use Rattle.halls.specs.Checks.{geometry_count};
 ghost use Rattle.halls.specs.Fronts.{entries_at};
 ghost use Rattle.halls.specs.ImageSize.{model_size};
-ghost use Rattle.images.specs.Fronts.{front_model, model_length, model_numbers, models_from, image_limit, Room, ModelsRoomBehind, WrittenModel, with_items};
+ghost use Rattle.images.specs.Fronts.{front_model, model_length, model_numbers, models_from, image_limit, Room, WrittenModel};
 ghost use Rattle.images.specs.Image.{model_block_bytes, model_image};
 
 use crate::blocks::ModelBlock;
-use crate::geometry::put_geometries;
-use crate::items::{Item, put_items};
+use crate::geometry::Geometry;
+use crate::items::{Item, Items, put_items};
 use crate::parts::{Measured, padded, pointer_to, put_copy};
 use halls::entries_of;
 use sections::{u16_le, u32_le};
@@ -30,14 +30,6 @@ impl Item for Model {
     }
 }
 
-// k models from the front of the list on, and their addresses, as parts of the image.
-pub fn put_models(out: &mut [u8], table: usize, at: usize, list: &[u8], k: usize)
-    requires { ModelsRoomBehind k list.now table at out.old }
-    ensures { out.new ≡ with_items model_size model_image out.old table at (models_from k list.now) }
-{
-    put_items::<Model>(out, table, at, list, k);
-}
-
 // The model at the front, and its geometries.
 fn put_model(out: &mut [u8], at: usize, front: &[u8]) -> Measured
     requires { (model_length front.now ≤ length front.now) × (entries_at front.now ≤ 16384) × (Room at (model_size (front_model front.now)) out.old) }
@@ -49,7 +41,13 @@ fn put_model(out: &mut [u8], at: usize, front: &[u8]) -> Measured
     let geometries = mapping + padded(2 * entries);
     put_model_numbers(out, at, front, entries, mapping);
     put_copy(out, mapping, &front[12..behind]);
-    let inner = put_geometries(out, at + 0x30, geometries, &front[behind..], entries);
+    let items = Items {
+        list: &front[behind..],
+        count: entries,
+        table: at + 0x30,
+        at: geometries,
+    };
+    let inner = put_items::<Geometry>(out, items);
     Measured {
         length: behind + inner.length,
         size: geometries - at + inner.size,
@@ -58,7 +56,7 @@ fn put_model(out: &mut [u8], at: usize, front: &[u8]) -> Measured
 
 // Its block, with `entries` geometries and a mapping at `mapping`.
 fn put_model_numbers(out: &mut [u8], at: usize, front: &[u8], entries: usize, mapping: usize)
-    requires { (at + 0x30 ≤ length out.old) × (at + 0x30 ≤ image_limit) × (mapping ≤ image_limit) × (entries ≤ 16384) }
+    requires { (Room at 0x30 out.old) × (mapping ≤ image_limit) × (entries ≤ 16384) }
     ensures { out.new ≡ overwrite out.old at (model_block_bytes (model_numbers at entries mapping front.now)) }
 {
     let block = ModelBlock {

@@ -7,7 +7,8 @@ ghost use Rattle.images.specs.Image.{image};
 ghost use Rattle.images.specs.Saving.{Saved};
 
 use crate::blocks::put_header;
-use crate::model::put_models;
+use crate::items::{Items, put_items};
+use crate::model::Model;
 use crate::parts::{padded, pointer_to};
 use halls::{HallSize, Refusal, hall_size, room};
 
@@ -36,5 +37,11 @@ fn put_image(out: &mut [u8], list: &[u8], models: usize)
 {
     let first = 16 + padded(8 * models);
     put_header(out, pointer_to(models, 16), models as u16);
-    put_models(out, 16, first, list, models);
+    let items = Items {
+        list,
+        count: models,
+        table: 16,
+        at: first,
+    };
+    put_items::<Model>(out, items);
 }

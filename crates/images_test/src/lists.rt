@@ -1,10 +1,10 @@
 // Rows of lists of calls. In each, a is the number of its list and b its own in there. A call gets the buffers and n as the row before left them.
 use halls::Refusal;
-use replay::{Call, NO_ROOM, accepted, answered, called_first, refused};
+use replay::{Call, accepted, lent, outcome, refused, run_call};
 use sections::ResReader;
 use std::fmt;
 use std::io::{self, Write};
-use testing::{Row, bytes, fill, first, numbers, rest};
+use testing::{Row, bytes, fill, first, numbers};
 
 // What a row asks for.
 #[derive(Clone, Copy)]
@@ -55,59 +55,45 @@ pub struct Bench {
     pub n: usize,
 }
 
-// take_in, behind the header at `va`.
-fn taken_in(
-    hall: &mut [u8],
-    room: usize,
-    n: usize,
-    reader: &ResReader,
-    va: u64,
-) -> Result<u64, Refusal> {
-    let hall = hall.get_mut(..room).ok_or(NO_ROOM)?;
-    halls::take_in(hall, n, reader, va)
-}
-
-// save, into the first `room` bytes.
-fn saved_in(image: &mut [u8], room: usize, hall: &[u8], n: usize) -> Result<u64, Refusal> {
-    images::save(hall, n, image.get_mut(..room).ok_or(NO_ROOM)?)
-}
-
 impl Bench {
-    fn begin(&mut self, row: Row, data: &[u8]) {
+    fn begin(&mut self, row: Row) {
         let seed = (row.e % 256) as u8;
         fill(&mut self.hall, seed);
         fill(&mut self.image, seed);
-        sections::copy_into(&mut self.hall, 0, data);
+        sections::copy_into(&mut self.hall, 0, row.data);
         self.room = row.d as usize;
         self.n = row.c as usize;
     }
 
-    fn take_in(&mut self, row: Row, data: &[u8]) -> Result<u64, Refusal> {
-        let cut = row.d as usize;
-        let reader = ResReader::new(first(data, cut), rest(data, cut));
-        taken_in(&mut self.hall, self.room, self.n, &reader, row.c)
+    fn take_in(&mut self, row: Row) -> Result<u64, Refusal> {
+        let reader = row.sections(row.d as usize);
+        halls::take_in(lent(&mut self.hall, self.room)?, self.n, &reader, row.c)
     }
 
     fn take_in_image(&mut self, row: Row) -> Result<u64, Refusal> {
         let reader = ResReader::new(first(&self.image, row.d as usize), &[]);
-        taken_in(&mut self.hall, self.room, self.n, &reader, row.c)
+        halls::take_in(lent(&mut self.hall, self.room)?, self.n, &reader, row.c)
     }
 
     fn save(&mut self, row: Row) -> Result<u64, Refusal> {
         let hall = first(&self.hall, self.room);
-        saved_in(&mut self.image, row.c as usize, hall, self.n)
+        images::save(hall, self.n, lent(&mut self.image, row.c as usize)?)
     }
 
-    // n after an answer, and the line about it.
-    fn left(&mut self, out: &mut impl Write, answer: Result<u64, Refusal>) -> io::Result<()> {
+    // An accepted answer is the next n. Prints the line about it.
+    fn finish_call(
+        &mut self,
+        out: &mut impl Write,
+        answer: Result<u64, Refusal>,
+    ) -> io::Result<()> {
         if let Ok(length) = answer {
             self.n = length as usize;
         }
-        answered(out, answer, &self.hall)
+        outcome(out, answer, &self.hall)
     }
 
     // The answer, the checksum of the whole image buffer, and the image where it has at most 576 bytes.
-    fn saved(&mut self, out: &mut impl Write, answer: Result<u64, Refusal>) -> io::Result<()> {
+    fn finish_save(&self, out: &mut impl Write, answer: Result<u64, Refusal>) -> io::Result<()> {
         match answer {
             Ok(length) => {
                 accepted(out, length, &self.image)?;
@@ -120,24 +106,24 @@ impl Bench {
         writeln!(out)
     }
 
-    pub fn run(&mut self, out: &mut impl Write, row: Row, data: &[u8]) -> io::Result<()> {
+    pub fn run(&mut self, out: &mut impl Write, row: Row) -> io::Result<()> {
         let asked = Asked::from(row.kind);
         write!(out, "{asked}")?;
         numbers(out, row, 5)?;
         let answer = match asked {
             Asked::List => {
-                self.begin(row, data);
+                self.begin(row);
                 return writeln!(out);
             }
             Asked::Save => {
                 let answer = self.save(row);
-                return self.saved(out, answer);
+                return self.finish_save(out, answer);
             }
-            Asked::Call(call) => called_first(call, &mut self.hall, self.n, self.room, row, data),
-            Asked::TakeIn => self.take_in(row, data),
+            Asked::Call(call) => run_call(call, &mut self.hall, self.n, self.room, row),
+            Asked::TakeIn => self.take_in(row),
             Asked::TakeInImage => self.take_in_image(row),
             Asked::Unknown => return writeln!(out),
         };
-        self.left(out, answer)
+        self.finish_call(out, answer)
     }
 }

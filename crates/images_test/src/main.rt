@@ -6,7 +6,7 @@ mod lists;
 
 use lists::Bench;
 use std::io::{self, BufReader, BufWriter, Write};
-use testing::{each_row, row_data};
+use testing::each_row;
 
 // At most 4,096 bytes follow a row.
 fn main(rt: HostRuntime) -> io::Result<()> {
@@ -21,7 +21,7 @@ fn main(rt: HostRuntime) -> io::Result<()> {
     };
     each_row(&mut input, |input, row| {
         let mut room = [0; 4096];
-        bench.run(&mut out, row, row_data(input, &mut room)?)
+        bench.run(&mut out, row.with_data(input, &mut room)?)
     })?;
     out.flush()
 }

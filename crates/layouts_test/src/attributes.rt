@@ -1,5 +1,5 @@
 // Rows about the attributes of one vertex.
-use crate::declarations::{component, declared};
+use crate::declarations::{component, vertices_of};
 use crate::values::{value, views};
 use std::io::{self, Write};
 use testing::{Row, numbers};
@@ -30,16 +30,10 @@ pub fn attributes(
 }
 
 // read_vertex_attributes, of data with stride a and b vertices, by a declaration of flags c and types d, at vertex e.
-pub fn attributes_row(out: &mut impl Write, row: Row, data: &[u8]) -> io::Result<()> {
+pub fn attributes_row(out: &mut impl Write, row: Row) -> io::Result<()> {
     write!(out, "attributes")?;
     numbers(out, row, 5)?;
-    let answer = vertices::read_vertex_attributes(
-        data,
-        (row.a % 65536) as u16,
-        (row.b % 4294967296) as u32,
-        declared(row.c, row.d),
-        row.e,
-    );
+    let answer = vertices::read_vertex_attributes(vertices_of(row), row.e);
     attributes(out, answer)?;
     writeln!(out)
 }

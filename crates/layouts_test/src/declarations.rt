@@ -2,7 +2,7 @@
 use crate::names;
 use std::io::{self, Write};
 use testing::{Row, bytes, done, first, numbers};
-use vertices::{VertexComponent, VertexComponentType, VertexDeclaration, VertexSemantic};
+use vertices::{VertexComponent, VertexComponentType, VertexDeclaration, VertexSemantic, Vertices};
 
 // from_nibble of a, and what belongs to the type.
 pub fn type_row(out: &mut impl Write, row: Row) -> io::Result<()> {
@@ -35,6 +35,16 @@ pub fn declared(flags: u64, types: u64) -> VertexDeclaration {
         unknown_6h: 255,
         count: 3,
         types,
+    }
+}
+
+// Of data, with stride a and b vertices, by a declaration of flags c and types d.
+pub fn vertices_of(row: Row<'_>) -> Vertices<'_> {
+    Vertices {
+        data: row.data,
+        stride: (row.a % 65536) as u16,
+        count: (row.b % 4294967296) as u32,
+        declaration: declared(row.c, row.d),
     }
 }
 
@@ -85,30 +95,28 @@ pub fn declaration(out: &mut impl Write, d: VertexDeclaration) -> io::Result<()>
 }
 
 // read_declaration, at offset a.
-pub fn read_row(out: &mut impl Write, row: Row, data: &[u8]) -> io::Result<()> {
+pub fn read_row(out: &mut impl Write, row: Row) -> io::Result<()> {
     write!(out, "read")?;
     numbers(out, row, 1)?;
-    declaration(out, vertices::read_declaration(data, row.a as usize))?;
+    declaration(out, vertices::read_declaration(row.data, row.a as usize))?;
     writeln!(out)
 }
 
 // write_declaration, at offset a, in the first b bytes of a buffer of 64. The row holds the buffer, then the declaration.
-pub fn write_row(out: &mut impl Write, row: Row, data: &[u8]) -> io::Result<()> {
+pub fn write_row(out: &mut impl Write, row: Row) -> io::Result<()> {
     let mut buffer = [0u8; 64];
     write!(out, "write")?;
     numbers(out, row, 2)?;
-    sections::copy_into(&mut buffer, 0, first(data, 64));
-    let d = vertices::read_declaration(data, 64);
-    let answer = write_first(&mut buffer, row.b as usize, row.a as usize, d);
+    sections::copy_into(&mut buffer, 0, first(row.data, 64));
+    let d = vertices::read_declaration(row.data, 64);
+    let answer = buffer.get_mut(..row.b as usize).is_some_and(|part| vertices::write_declaration(
+        part,
+        row.a as usize,
+        d,
+    ));
     write!(out, " {}", done(answer))?;
     bytes(out, &buffer)?;
     writeln!(out)
-}
-
-// write_declaration in the first n bytes.
-fn write_first(b: &mut [u8], n: usize, at: usize, d: VertexDeclaration) -> bool {
-    b.get_mut(..n)
-        .is_some_and(|part| vertices::write_declaration(part, at, d))
 }
 
 // position_only, with stride a.

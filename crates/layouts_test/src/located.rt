@@ -1,11 +1,10 @@
 // Rows about locating the vertices of a geometry.
 use crate::declarations::declaration;
-use sections::ResReader;
 use std::io::{self, Write};
-use testing::{Row, first, numbers, place, rest};
+use testing::{Row, numbers, place};
 use vertices::VertexBuffer;
 
-fn found(out: &mut impl Write, b: VertexBuffer) -> io::Result<()> {
+fn vertex_buffer(out: &mut impl Write, b: VertexBuffer) -> io::Result<()> {
     write!(out, " {:?} {:x}", b.layout, b.layout.number())?;
     write!(
         out,
@@ -19,8 +18,8 @@ fn found(out: &mut impl Write, b: VertexBuffer) -> io::Result<()> {
     }
 }
 
-fn located(out: &mut impl Write, system: &[u8], graphics: &[u8], row: Row) -> io::Result<()> {
-    let reader = ResReader::new(system, graphics);
+fn locate(out: &mut impl Write, row: Row) -> io::Result<()> {
+    let reader = row.sections(row.a as usize);
     match vertices::parse_vertex_buffer_at(
         &reader,
         row.b,
@@ -28,17 +27,16 @@ fn located(out: &mut impl Write, system: &[u8], graphics: &[u8], row: Row) -> io
         (row.d % 4294967296) as u32,
         (row.e % 65536) as u16,
     ) {
-        Some(b) => found(out, b),
+        Some(b) => vertex_buffer(out, b),
         None => write!(out, " not found"),
     }
 }
 
 // parse_vertex_buffer_at, at address b, with the geometry's own pointer c, count d and stride e. The first a bytes are the
 // system section, the others the graphics section.
-pub fn buffer_row(out: &mut impl Write, row: Row, data: &[u8]) -> io::Result<()> {
+pub fn buffer_row(out: &mut impl Write, row: Row) -> io::Result<()> {
     write!(out, "buffer")?;
     numbers(out, row, 5)?;
-    let at = row.a as usize;
-    located(out, first(data, at), rest(data, at), row)?;
+    locate(out, row)?;
     writeln!(out)
 }

@@ -3,7 +3,6 @@
 #![tactic(auto)]
 
 mod attributes;
-mod buffers;
 mod declarations;
 mod encoding;
 mod located;
@@ -12,25 +11,25 @@ mod unified;
 mod values;
 
 use std::io::{self, BufReader, BufWriter, Write};
-use testing::{Row, each_row, row_data};
+use testing::{Row, each_row};
 
 // The one place that reads the kind's number: an enum would be a second table beside this one.
-fn run(out: &mut impl Write, row: Row, data: &[u8]) -> io::Result<()> {
+fn run(out: &mut impl Write, row: Row) -> io::Result<()> {
     match row.kind {
         0 => declarations::type_row(out, row),
         1 => declarations::semantic_row(out, row),
         2 => declarations::id_row(out, row),
         3 => declarations::components_row(out, row),
         4 => declarations::component_row(out, row),
-        5 => declarations::read_row(out, row, data),
-        6 => declarations::write_row(out, row, data),
+        5 => declarations::read_row(out, row),
+        6 => declarations::write_row(out, row),
         7 => declarations::position_only_row(out, row),
-        8 => located::buffer_row(out, row, data),
-        9 => values::seen_row(out, row, data),
-        10 => attributes::attributes_row(out, row, data),
-        11 => unified::unify_row(out, row, data),
-        12 => encoding::encode_row(out, row, data),
-        13 => unified::unify_many_row(out, row, data),
+        8 => located::buffer_row(out, row),
+        9 => values::seen_row(out, row),
+        10 => attributes::attributes_row(out, row),
+        11 => unified::unify_row(out, row),
+        12 => encoding::encode_row(out, row),
+        13 => unified::unify_many_row(out, row),
         _ => writeln!(out, "unknown row"),
     }
 }
@@ -42,7 +41,7 @@ fn main(rt: HostRuntime) -> io::Result<()> {
     let mut out = BufWriter::new(alloc, io::writer(&rt))?;
     each_row(&mut input, |input, row| {
         let mut room = [0; 512];
-        run(&mut out, row, row_data(input, &mut room)?)
+        run(&mut out, row.with_data(input, &mut room)?)
     })?;
     out.flush()
 }

@@ -68,9 +68,9 @@ pub fn views(
 }
 
 // as_vec2, as_vec3, as_vec4 and as_rgba8, of the type a and a value of shape b.
-pub fn seen_row(out: &mut impl Write, row: Row, data: &[u8]) -> io::Result<()> {
+pub fn seen_row(out: &mut impl Write, row: Row) -> io::Result<()> {
     let t = VertexComponentType::from_nibble((row.a % 256) as u8);
-    let v = value_in(data, row.b);
+    let v = value_in(row.data, row.b);
     write!(out, "seen")?;
     numbers(out, row, 2)?;
     names::component_type(out, t)?;

@@ -1,6 +1,6 @@
-// Calls that change a hall, with arguments from a row's numbers and its bytes `more`.
-use crate::lines::NO_ROOM;
-use halls::{AttributeChange, GivenGeometry, Refusal};
+// Calls that change a hall, with arguments from a row's numbers and its bytes.
+use crate::lines::lent;
+use halls::{AttributeChange, GeometryId, GivenGeometry, Refusal};
 use sections::{u32_le, u64_le};
 use std::{array, fmt};
 use testing::{Row, first, rest, value_in};
@@ -54,20 +54,27 @@ impl fmt::Display for Call {
     }
 }
 
-fn added_model(hall: &mut [u8], n: usize, row: Row) -> Result<u64, Refusal> {
+fn add_model(hall: &mut [u8], n: usize, row: Row) -> Result<u64, Refusal> {
     let binding = (row.c % 4294967296) as u32;
     let mask = (row.d % 65536) as u16;
     halls::add_model(hall, n, binding, mask)
 }
 
-// The value stands behind its semantic and its shape.
-fn set(hall: &mut [u8], n: usize, row: Row, more: &[u8]) -> Result<u64, Refusal> {
-    let change = AttributeChange {
+// Geometry d of model c.
+pub fn geometry_id(row: Row) -> GeometryId {
+    GeometryId {
         model: row.c,
-        geometry: row.d,
+        index: row.d,
+    }
+}
+
+// The value stands behind its semantic and its shape.
+fn set_attribute(hall: &mut [u8], n: usize, row: Row) -> Result<u64, Refusal> {
+    let change = AttributeChange {
+        geometry: geometry_id(row),
         vertex: row.e,
-        semantic: u64_le(more, 0),
-        value: value_in(rest(more, 16), u64_le(more, 8)),
+        semantic: u64_le(row.data, 0),
+        value: value_in(rest(row.data, 16), u64_le(row.data, 8)),
     };
     halls::set_attribute(hall, n, change)
 }
@@ -77,52 +84,35 @@ fn six_in(raw: &[u8]) -> [u32; 6] {
 }
 
 // The first of six indices, as many as the first number says.
-fn replaced(hall: &mut [u8], n: usize, row: Row, more: &[u8]) -> Result<u64, Refusal> {
-    let six = six_in(rest(more, 8));
-    let indices = first(&six, u64_le(more, 0) as usize);
-    halls::replace_indices(hall, n, row.c, row.d, indices)
+fn replace_indices(hall: &mut [u8], n: usize, row: Row) -> Result<u64, Refusal> {
+    let six = six_in(rest(row.data, 8));
+    let indices = first(&six, u64_le(row.data, 0) as usize);
+    halls::replace_indices(hall, n, geometry_id(row), indices)
 }
 
 // The vertex bytes stand behind the 56 bytes of the other arguments.
-fn added_geometry(hall: &mut [u8], n: usize, row: Row, more: &[u8]) -> Result<u64, Refusal> {
-    let shader = (row.c % 65536) as u16;
-    let stride = (row.d % 65536) as u16;
-    let count = (row.e % 4294967296) as u32;
-    let declaration = vertices::read_declaration(more, 0);
-    let six = six_in(rest(more, 32));
-    let indices = first(&six, u64_le(more, 24) as usize);
-    let content = rest(more, 56);
+fn add_geometry(hall: &mut [u8], n: usize, row: Row) -> Result<u64, Refusal> {
+    let six = six_in(rest(row.data, 32));
     let given = GivenGeometry {
-        shader,
-        declaration,
-        stride,
-        count,
-        content,
-        indices,
+        shader: (row.c % 65536) as u16,
+        declaration: vertices::read_declaration(row.data, 0),
+        stride: (row.d % 65536) as u16,
+        count: (row.e % 4294967296) as u32,
+        content: rest(row.data, 56),
+        indices: first(&six, u64_le(row.data, 24) as usize),
     };
     halls::add_geometry(hall, n, given)
 }
 
-fn called(call: Call, hall: &mut [u8], n: usize, row: Row, more: &[u8]) -> Result<u64, Refusal> {
+// On the hall of the first n bytes, where the first `room` are lent.
+pub fn run_call(call: Call, b: &mut [u8], n: usize, room: usize, row: Row) -> Result<u64, Refusal> {
+    let hall = lent(b, room)?;
     match call {
-        Call::AddModel => added_model(hall, n, row),
+        Call::AddModel => add_model(hall, n, row),
         Call::RemoveModel => halls::remove_model(hall, n, row.c),
-        Call::RemoveGeometry => halls::remove_geometry(hall, n, row.c, row.d),
-        Call::SetAttribute => set(hall, n, row, more),
-        Call::ReplaceIndices => replaced(hall, n, row, more),
-        Call::AddGeometry => added_geometry(hall, n, row, more),
+        Call::RemoveGeometry => halls::remove_geometry(hall, n, geometry_id(row)),
+        Call::SetAttribute => set_attribute(hall, n, row),
+        Call::ReplaceIndices => replace_indices(hall, n, row),
+        Call::AddGeometry => add_geometry(hall, n, row),
     }
-}
-
-// The call on the hall of the first n bytes, where the first `room` are lent.
-pub fn called_first(
-    call: Call,
-    b: &mut [u8],
-    n: usize,
-    room: usize,
-    row: Row,
-    more: &[u8],
-) -> Result<u64, Refusal> {
-    let hall = b.get_mut(..room).ok_or(NO_ROOM)?;
-    called(call, hall, n, row, more)
 }

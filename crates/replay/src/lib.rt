@@ -4,5 +4,5 @@
 mod calls;
 mod lines;
 
-pub use calls::{Call, called_first};
-pub use lines::{NO_ROOM, accepted, answered, refused};
+pub use calls::{Call, geometry_id, run_call};
+pub use lines::{accepted, lent, outcome, refused};

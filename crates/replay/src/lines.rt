@@ -20,7 +20,7 @@ pub fn refused(out: &mut impl Write, refusal: Refusal, b: &[u8]) -> io::Result<(
 }
 
 // The same of either answer, and of an accepted list its triangles, and its bytes where they are at most 256.
-pub fn answered(out: &mut impl Write, answer: Result<u64, Refusal>, list: &[u8]) -> io::Result<()> {
+pub fn outcome(out: &mut impl Write, answer: Result<u64, Refusal>, list: &[u8]) -> io::Result<()> {
     match answer {
         Ok(length) => {
             accepted(out, length, list)?;
@@ -35,8 +35,10 @@ pub fn answered(out: &mut impl Write, answer: Result<u64, Refusal>, list: &[u8])
     writeln!(out)
 }
 
-// The answer where a row asks for a longer part of a buffer than there is: number 0 on the line, which is no check's.
-pub const NO_ROOM: Refusal = Refusal {
-    check: 0,
-    needed: 0,
-};
+// The first n bytes of a buffer; where there are fewer, number 0 on the line, which is no check's.
+pub fn lent(b: &mut [u8], n: usize) -> Result<&mut [u8], Refusal> {
+    b.get_mut(..n).ok_or(Refusal {
+        check: 0,
+        needed: 0,
+    })
+}

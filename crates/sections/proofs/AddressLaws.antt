@@ -4,9 +4,10 @@ use Rattle.std.specs.Bool.{then_some}
 use mathlib.Core.Path.{◌≡◌, refl, sym, subst, ◌∙◌}
 use mathlib.Core.Bool.{Bool, true, false, cond, ◌&&◌}
 use mathlib.Core.List.{List, []}
-use Prim.Native.Nat.{ℕ, ◌+◌, ◌-◌, ◌/◌, ◌%◌, ◌^◌, ◌≤◌, ◌<◌}
+use Prim.Native.Nat.{ℕ, ◌+◌, ◌-◌, ◌*◌, ◌/◌, ◌%◌, ◌^◌, ◌≤◌, ◌<◌}
 use native.Mathlib.Omega.{arith}
 use borrow.Author.Tests.{eq-eqb, ne_eqb, eqb-true, leb-true}
+use lib.Bits.{bit_and, and_step, and_shr, and_mod, and_mask}
 use lib.Dec.{T, eqb, leb}
 use lib.ListN.{length}
 use Rattle.sections.specs.Edit.{part, fits}
@@ -48,6 +49,36 @@ not-both false false a b p q h = refl
 pub not-both_set : (j k x : ℕ) → (bit j x + bit k x ≡ 2 → ⊥) → both_set j k x ≡ false
 unfolding both_set
 not-both_set j k x h = not-both (eqb (bit j x) 1) (eqb (bit k x) 1) (bit j x) (bit k x) refl refl h
+
+-- a base, as a mask, keeps its two bits alone
+
+and_zero : (x : ℕ) → bit_and x 0 ≡ 0
+and_zero x = omega (arith, and_mask x 0)
+
+and_five : (x : ℕ) → bit_and x 5 ≡ x % 2 + 4 * (x / 4 % 2)
+and_five x = omega (arith, and_step x 5, and_step (x / 2) 2, and_step (x / 2 / 2) 1, and_zero (x / 2 / 2 / 2))
+
+and_six : (x : ℕ) → bit_and x 6 ≡ 2 * (x / 2 % 2) + 4 * (x / 4 % 2)
+and_six x = omega (arith, and_step x 6, and_step (x / 2) 3, and_step (x / 2 / 2) 1, and_zero (x / 2 / 2 / 2))
+
+and_system : (x : ℕ) → bit_and x 0x50000000 ≡ 0x10000000 * bit 28 x + 0x40000000 * bit 30 x
+and_system x = omega (arith, and_shr x 0x50000000 28, and_mod x 0x50000000 28, and_five (x / 2 ^ 28), and_zero (x % 2 ^ 28))
+
+and_graphics : (x : ℕ) → bit_and x 0x60000000 ≡ 0x20000000 * bit 29 x + 0x40000000 * bit 30 x
+and_graphics x = omega (arith, and_shr x 0x60000000 28, and_mod x 0x60000000 28, and_six (x / 2 ^ 28), and_zero (x % 2 ^ 28))
+
+module _ (x : ℕ) where
+  pub in_system : bit_and x 0x50000000 ≡ 0x50000000 → bit 30 x + bit 28 x ≡ 2
+  in_system e = omega (arith, e, and_system x, below (x / 2 ^ 28), below (x / 2 ^ 30))
+
+  pub system-test : bit 30 x + bit 28 x ≡ 2 → bit_and x 0x50000000 ≡ 0x50000000
+  system-test e = omega (arith, e, and_system x, below (x / 2 ^ 28), below (x / 2 ^ 30))
+
+  pub in_graphics : bit_and x 0x60000000 ≡ 0x60000000 → bit 30 x + bit 29 x ≡ 2
+  in_graphics e = omega (arith, e, and_graphics x, below (x / 2 ^ 29), below (x / 2 ^ 30))
+
+  pub graphics-test : bit 30 x + bit 29 x ≡ 2 → bit_and x 0x60000000 ≡ 0x60000000
+  graphics-test e = omega (arith, e, and_graphics x, below (x / 2 ^ 29), below (x / 2 ^ 30))
 
 -- ---- where an address points, case by case
 

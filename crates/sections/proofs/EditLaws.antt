@@ -51,16 +51,17 @@ module _ (s : List ℕ) where
       let m : k ≤ n - i = omega arith in
       rw (drop-take i n (drop at s), take-take k (n - i) (drop i (drop at s)), drop-drop i at s)
 
--- the first n of what is behind `at`, as the library's `first_chunk` finds them
-pub chunk-whole : (s : List ℕ) (at n : ℕ) (rest : List ℕ) (r : Option (Bor (List ℕ))) → at + n ≤ length s → rest ≡ part s at n
+-- the first n of what the library's `get` finds behind `at`
+pub chunk-found : (s : List ℕ) (at n : ℕ) (rest : List ℕ) (r : Option (Bor (List ℕ))) → at ≤ length s → rest ≡ take (length s - at) (drop at s)
     → MatchOption r (length rest < n) (λ y. IsFirstChunk rest y.now n) → option_map (λ (y : Bor (List ℕ)). y.now) r ≡ cond (fits s at n) (Some (part s at n)) None
 unfolding part
-chunk-whole s at n rest None h e m =
-    let l : length rest ≡ n = ap length e ∙ length-take-le n (drop at s) (rw length-drop (omega (arith, h))) in
-    absurd (omega (arith, l, m))
-chunk-whole s at n rest (Some y) h e m =
-    let l : length rest ≡ n = ap length e ∙ length-take-le n (drop at s) (rw length-drop (omega (arith, h))) in
-    rw (le-leb (at + n) (length s) h) (ap Some (m.same ∙ take_all n rest (omega (arith, l)) ∙ e))
+chunk-found s at n rest None h e m =
+    let l : length rest ≡ length s - at = ap length e ∙ length-take-le (length s - at) (drop at s) (rw length-drop (omega arith)) in
+    rw (lt-leb (at + n) (length s) (omega (arith, l, m, h)))
+chunk-found s at n rest (Some y) h e m =
+    let l : length rest ≡ length s - at = ap length e ∙ length-take-le (length s - at) (drop at s) (rw length-drop (omega arith)) in
+    let all : rest ≡ drop at s = e ∙ take_all (length s - at) (drop at s) (rw length-drop (omega arith)) in
+    rw (le-leb (at + n) (length s) (omega (arith, l, m.enough, h))) (ap Some (m.same ∙ rw all))
 
 -- the n behind `at`, as the library's `get` finds them in what is behind it
 pub range-whole : (s : List ℕ) (at n : ℕ) (rest : List ℕ) (r : Option (Bor (List ℕ))) → at ≤ length s → rest ≡ take (length s - at) (drop at s)

@@ -25,11 +25,7 @@ pub fn copy_within(buf: &mut [u8], from: usize, to: usize, n: usize) -> bool
     if !ends_inside(from, n, buf.len()) || !ends_inside(to, n, buf.len()) {
         return false;
     }
-    if to <= from {
-        move_down(buf, from, to, n);
-    } else {
-        move_up(buf, from, to, n);
-    }
+    move_blocks(buf, from, to, n);
     true
 }
 
@@ -44,8 +40,9 @@ pub fn zero(buf: &mut [u8], at: usize, n: usize) -> bool
     true
 }
 
-// In blocks through a local array: as far as the compiler can tell two slices overlap. By one `copy_from_slice` the list of a small drawable takes 1.3 times
-// as long.
+// In blocks through a local array: as far as the compiler can tell two slices overlap. By one `copy_from_slice` the hall list of a large drawable with indices
+// of 4 bytes takes 0.28 to 0.31 of the original's time (by blocks 0.23 to 0.25, wanted 0.25), and save of a large one with vertices of 52 bytes 1.38 to 1.41
+// of `memcpy` (by blocks 1.20 to 1.28, wanted 1.3), both measured in turn on one machine.
 fn copy_blocks(dst: &mut [u8], at: usize, src: &[u8])
     requires { at + length src.now ≤ length dst.old }
     ensures { dst.new ≡ overwrite dst.old at src.now }
@@ -55,39 +52,18 @@ fn copy_blocks(dst: &mut [u8], at: usize, src: &[u8])
     }
 }
 
-// Upwards from the first byte: what is still to be read lies at or above what has been written.
-fn move_down(buf: &mut [u8], from: usize, to: usize, n: usize)
-    requires order { to ≤ from }
-    requires room { from + n ≤ length buf.old }
+// Block by block, from the first where bytes move down and from the last where they move up: what is still to be read is as it was. By the library's
+// `copy_within` a move of 256 KiB takes 1.3 (down) to 1.8 (up) of the time of `memmove`, and edits have the goal of 1.1 of check and `memmove`.
+fn move_blocks(buf: &mut [u8], from: usize, to: usize, n: usize)
+    requires source { from + n ≤ length buf.old }
+    requires target { to + n ≤ length buf.old }
     ensures { buf.new ≡ overwrite buf.old to (part buf.old from n) }
 {
-    let whole = n / BLOCK;
-    for block in 0..whole {
-        move_block(buf, from + block * BLOCK, to + block * BLOCK, BLOCK);
-    }
-    move_block(
-        buf,
-        from + whole * BLOCK,
-        to + whole * BLOCK,
-        n - whole * BLOCK,
-    );
-}
-
-// Downwards from the last byte: what is still to be read lies at or below what has been written.
-fn move_up(buf: &mut [u8], from: usize, to: usize, n: usize)
-    requires order { from ≤ to }
-    requires room { to + n ≤ length buf.old }
-    ensures { buf.new ≡ overwrite buf.old to (part buf.old from n) }
-{
-    let blocks = n / BLOCK;
-    move_block(
-        buf,
-        from + blocks * BLOCK,
-        to + blocks * BLOCK,
-        n - blocks * BLOCK,
-    );
-    for index in (0..blocks).rev() {
-        move_block(buf, from + index * BLOCK, to + index * BLOCK, BLOCK);
+    let blocks = n.div_ceil(BLOCK);
+    for turn in 0..blocks {
+        let block = if to <= from { turn } else { blocks - 1 - turn };
+        let first = block * BLOCK;
+        move_block(buf, from + first, to + first, BLOCK.min(n - first));
     }
 }
 
@@ -102,7 +78,7 @@ fn copy_block(dst: &mut [u8], at: usize, part: &[u8])
     dst[at..at + n].copy_from_slice(&block[..n]);
 }
 
-// Through a local block: as far as the compiler can tell two parts of one slice overlap, and a local array overlaps neither.
+// Through a local block, as above. Beside `copy_block`, since a part of a slice cannot be lent beside the slice.
 fn move_block(buf: &mut [u8], from: usize, to: usize, k: usize)
     requires size { k ≤ 4096 }
     requires source { from + k ≤ length buf.old }

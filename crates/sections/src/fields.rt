@@ -1,5 +1,6 @@
 // Little-endian fields of a byte slice. A read that does not fit is 0; a write that does not fit changes nothing and
-// answers false. Each width has its name, and a read past the end is 0, as in the original.
+// answers false. Each width has its name, and a read past the end is 0, as in the original. A write takes the slice and a place, not a part of the slice: its
+// contract says what becomes of all of it.
 ghost use Rattle.std.specs.Prelude.{◌≡◌, cond, Some, None};
 ghost use Rattle.sections.specs.Edit.{part, fits, Edited};
 ghost use Rattle.sections.specs.Le.{bytes, field};
@@ -55,18 +56,14 @@ pub fn put_u64_le(b: &mut [u8], off: usize, v: u64) -> bool
     put_bytes(b, off, u64::to_le_bytes(v))
 }
 
-// The N bytes from `off` on, if they end inside the slice. Asked as `ends_inside` asks, which a loop over records asks once of the slice's length and once
-// of the place: by `get` and `first_chunk` alone both depend on the place.
+// The N bytes from `off` on, if they end inside the slice.
 fn bytes_at<const N: usize>(b: &[u8], off: usize) -> Option<[u8; N]>
     ensures { result ≡ cond (fits b.now off N) (Some (part b.now off N)) None }
 {
-    if !ends_inside(off, N, b.len()) {
-        return None;
-    }
-    b[off..off + N].first_chunk().copied()
+    b.get(off..)?.first_chunk().copied()
 }
 
-// The same for writing: so few bytes go in one piece.
+// The N bytes v from `off` on, if they end inside the slice: at most 8, so not in blocks as `copy_into` copies.
 fn put_bytes<const N: usize>(b: &mut [u8], off: usize, v: [u8; N]) -> bool
     ensures { Edited (fits b.old off N) b.old off v.entry result b.new }
 {

@@ -5,10 +5,19 @@ ghost use Rattle.sections.specs.Lists.{located_list, header_at, header_length};
 use crate::fields::{u16_le, u64_le};
 use crate::lookup::Located;
 use crate::reader::ResReader;
+use std::{error, fmt};
 
 // A list that has elements, whose bytes are not there.
 #[derive(Clone, Copy, Debug, PartialEq, Eq)]
 pub struct Unresolved;
+
+impl fmt::Display for Unresolved {
+    fn fmt<W: fmt::Write>(&self, f: &mut fmt::Formatter<W>) -> fmt::Result {
+        f.write_str("a list's elements do not lie in the sections")
+    }
+}
+
+impl error::Error for Unresolved {}
 
 // 16 bytes: pointer at 0, count at 8, capacity at 10.
 #[derive(Clone, Copy, Debug, Default, PartialEq, Eq)]
@@ -41,7 +50,7 @@ impl<'a> ResReader<'a> {
             return Ok(None);
         }
         let place = self
-            .locate(va, count as usize * width as usize)
+            .locate(va, count as usize * usize::from(width))
             .ok_or(Unresolved)?;
         Ok(Some(place))
     }

@@ -1,4 +1,4 @@
-// Where an address points.
+// Addresses: where each section begins, how long it may be, and a place in one. `ResReader` looks an address up.
 
 pub const SYSTEM_BASE: u64 = 0x5000_0000;
 

@@ -35,18 +35,18 @@ impl<'a> ResReader<'a> {
         self.system.len() <= SECTION_LIMIT && self.graphics.len() <= SECTION_LIMIT
     }
 
-    // Where the len bytes behind an address lie. Bits are tested with >> and %.
+    // Where the len bytes behind an address lie. Each base has two bits set: an address with both is of its section, and graphics is tried first.
     pub fn locate(&self, va: u64, len: usize) -> Option<Located>
         ensures { result ≡ located self.now va len }
     {
         if va == 0 {
             return None;
         }
-        if (va >> 30) % 2 + (va >> 29) % 2 == 2 {
+        if va & GRAPHICS_BASE == GRAPHICS_BASE {
             let at = (va - GRAPHICS_BASE) as usize;
             return ends_inside(at, len, self.graphics.len()).then_some(Located::Graphics(at));
         }
-        if (va >> 30) % 2 + (va >> 28) % 2 == 2 {
+        if va & SYSTEM_BASE == SYSTEM_BASE {
             let at = (va - SYSTEM_BASE) as usize;
             return ends_inside(at, len, self.system.len()).then_some(Located::System(at));
         }

@@ -1,22 +1,24 @@
 // The buffers that rows run on.
 use sections::ResReader;
-use testing::{Row, first, pattern};
+use testing::{Row, first, pattern, unwritten};
 
-// Two sections, and how many of the bytes of each a row uses.
+// Two sections, and how many of the bytes of each a row uses: with no heap, a section is the first bytes of an array.
 #[derive(Drop)]
 pub struct Sections {
     system: [u8; 64],
+    system_size: usize,
     graphics: [u8; 64],
-    sizes: [usize; 2],
+    graphics_size: usize,
 }
 
 impl Sections {
     // Of the sizes a and b, at most 64.
     pub fn of(row: Row) -> Self {
         Self {
-            system: pattern(129),
+            system: unwritten(),
+            system_size: row.a as usize,
             graphics: pattern(65),
-            sizes: [row.a as usize, row.b as usize],
+            graphics_size: row.b as usize,
         }
     }
 
@@ -29,8 +31,8 @@ impl Sections {
 
     pub fn reader(&self) -> ResReader<'_> {
         ResReader::new(
-            first(&self.system, self.sizes[0]),
-            first(&self.graphics, self.sizes[1]),
+            first(&self.system, self.system_size),
+            first(&self.graphics, self.graphics_size),
         )
     }
 }

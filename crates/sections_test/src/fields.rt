@@ -1,6 +1,6 @@
 // Rows about little-endian fields: of width a, in a buffer of b bytes, at most 64, at offset c.
 use std::io::{self, Write};
-use testing::{Row, bytes, done, first, numbers, pattern};
+use testing::{Row, bytes, done, first, numbers, unwritten};
 
 // Four types with functions of their own: a trait over them would be longer than these four lines, and than those of `write`.
 fn read(b: &[u8], width: u64, off: usize) -> u64 {
@@ -13,7 +13,7 @@ fn read(b: &[u8], width: u64, off: usize) -> u64 {
 }
 
 pub fn read_row(out: &mut impl Write, row: Row) -> io::Result<()> {
-    let buffer: [u8; 64] = pattern(129);
+    let buffer = unwritten::<64>();
     write!(out, "read")?;
     numbers(out, row, 3)?;
     let field = read(first(&buffer, row.b as usize), row.a, row.c as usize);
@@ -37,7 +37,7 @@ fn write_first(b: &mut [u8], n: usize, width: u64, off: usize, v: u64) -> bool {
 
 // Writes the lowest bytes of d, and prints all 64 bytes of the buffer that the first b were lent of.
 pub fn write_row(out: &mut impl Write, row: Row) -> io::Result<()> {
-    let mut buffer: [u8; 64] = pattern(129);
+    let mut buffer = unwritten::<64>();
     write!(out, "write")?;
     numbers(out, row, 4)?;
     let answer = write_first(&mut buffer, row.b as usize, row.a, row.c as usize, row.d);

@@ -47,13 +47,11 @@ fn place_of(which: u64, at: usize) -> Option<Located> {
 // bytes_of, at offset d of the system section (c = 0), of the graphics section (1) or of none, of e bytes.
 pub fn bytes_of_row(out: &mut impl Write, row: Row) -> io::Result<()> {
     let lent = Sections::of(row);
-    let p = place_of(row.c, row.d as usize);
+    let wanted = place_of(row.c, row.d as usize);
     write!(out, "bytes_of")?;
     numbers(out, row, 5)?;
-    match p {
-        Some(p) => slice(out, lent.reader().bytes_of(p, row.e as usize)),
-        None => slice(out, None),
-    }
+    let found = wanted.and_then(|p| lent.reader().bytes_of(p, row.e as usize));
+    slice(out, found)
 }
 
 // within_limit. Only its yes is tried here: a section of more than 67,108,864 bytes does not fit on a program's stack.

@@ -8,6 +8,12 @@ pub fn first<T>(items: &[T], n: usize) -> &[T] {
     &items[..n.min(items.len())]
 }
 
+// The same of items that are written to.
+pub fn first_mut<T>(items: &mut [T], n: usize) -> &mut [T] {
+    let n = n.min(items.len());
+    &mut items[..n]
+}
+
 // The items from n on, none where there are fewer.
 pub fn rest<T>(items: &[T], n: usize) -> &[T] {
     &items[n.min(items.len())..]
@@ -30,15 +36,6 @@ pub fn read_full(input: &mut impl Read, b: &mut [u8]) -> io::Result<usize>
     Ok(done)
 }
 
-// Fills the first n bytes from the input, where the buffer has so many. Where the input has fewer, the others stay as
-// they were.
-pub fn read_first(input: &mut impl Read, b: &mut [u8], n: usize) -> io::Result<()> {
-    if let Some(part) = b.get_mut(..n) {
-        read_full(input, part)?;
-    }
-    Ok(())
-}
-
 // A function of its own, so that no proof contains the zeros.
 pub fn zeros<const N: usize>() -> [u8; N]
     ensures { length result ≡ N }
@@ -47,6 +44,13 @@ pub fn zeros<const N: usize>() -> [u8; N]
 }
 
 // A buffer before it is written to.
+pub fn unwritten<const N: usize>() -> [u8; N]
+    ensures { length result ≡ N }
+{
+    pattern(129)
+}
+
+// A buffer that `fill` has written.
 pub fn pattern<const N: usize>(seed: u8) -> [u8; N]
     ensures { length result ≡ N }
 {
@@ -65,7 +69,8 @@ pub fn fill(b: &mut [u8], seed: u8)
     }
 }
 
-// The bytes as the digits of a number in base 257, modulo the prime 2^55 - 55.
+// The bytes as the digits of a number in base 257, modulo the prime 2^55 - 55. A loop: to the closure of a `fold` the sum could be any number, and times 257
+// it would not be known to fit.
 pub fn checksum(b: &[u8]) -> u64 {
     let mut sum: u64 = 0;
     for byte in b {

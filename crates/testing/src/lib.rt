@@ -6,7 +6,7 @@ mod print;
 mod rows;
 mod values;
 
-pub use buffers::{checksum, fill, first, pattern, read_full, rest, zeros};
+pub use buffers::{checksum, fill, first, first_mut, pattern, read_full, rest, unwritten, zeros};
 pub use print::{bytes, done, place};
-pub use rows::{Row, each_row, numbers, row_data};
+pub use rows::{Row, each_row, numbers};
 pub use values::value_in;

@@ -1,4 +1,4 @@
-// Attribute values of a row's bytes.
+// Attribute values of a row's bytes. The library's `passed_value` is the same by shape, of numbers that C passes; src/values.rt of exports says why twice.
 use sections::{u8_le, u32_le};
 use std::array;
 use vertices::{Bytes4, F32, Vec2, Vec3, Vec4, VertexAttributeValue};

@@ -1,7 +1,7 @@
 -- Laws of encoding: how many bytes, how numbers join, and what is read again.
 use mathlib.Core.Path.{◌≡◌, refl, sym, ap, subst, ◌∙◌}
 use mathlib.Core.Bool.{Bool, true, false, cond}
-use mathlib.Core.List.{List, [], ◌∷◌, ◌++◌, map, map-append}
+use mathlib.Core.List.{List, [], ◌∷◌, ◌++◌, append-nil, map, map-append}
 use Prim.Native.Nat.{ℕ, zero, suc, ◌+◌, ◌*◌, ◌^◌, ◌≤◌, ◌<◌}
 use native.Mathlib.Nat.{add-mul, add-zero, mul-le-mul_right, one-le-pow}
 use native.Mathlib.Numerals.{add-one}
@@ -76,6 +76,13 @@ runs_join k s at n xs ys e f g h =
     let m : at + n * k + length (run k ys) ≤ length s = rw length_run (omega arith) in
     overwrite-behind s at (run k xs) (n * k) (run k ys) f l g m ∙ ap (overwrite s at) (sym (run-append k xs ys))
 
+-- two numbers, one behind the other
+pub two_join : (k : ℕ) (s : List ℕ) (at x y : ℕ) {t u : List ℕ} → t ≡ overwrite s at (bytes k x) → u ≡ overwrite t (at + k) (bytes k y) → at + 2 * k ≤ length s → u ≡ overwrite s at (run k (x ∷ y ∷ []))
+unfolding run
+two_join k s at x y f g h =
+    let m : at + k + length (bytes k y) ≤ length s = rw length-bytes (omega arith) in
+    rw append-nil (overwrite-behind s at (bytes k x) k (bytes k y) f (length-bytes k x) g m)
+
 -- s with the first i of the numbers xs written from `off` on, each k bytes, b
 pub record Encoding (k : ℕ) (f : ℕ → ℕ) (xs s : List ℕ) (off : ℕ) (b : List ℕ) (i : ℕ) : Type 0 where
   pub is : b ≡ overwrite s off (run k (map f (take i xs)))
@@ -105,6 +112,23 @@ module _ {k : ℕ} {f : ℕ → ℕ} {xs s : List ℕ} {off : ℕ} (room : off +
         let put : t ≡ overwrite b (off + i * k) (run k (f x ∷ [])) = rw run-one u in
         let is : t ≡ overwrite s off (run k (map f (take i xs) ++ f x ∷ [])) = runs_join k s off i (map f (take i xs)) (f x ∷ []) size e.is put (omega arith) in
         record { is = rw joined is; same = ap length u ∙ overwrite-length b (off + i * k) (bytes k (f x)) (rw length-bytes (encoding_room h)) ∙ e.same }
+
+-- ---- what is written
+
+module _ (t : VertexComponentType) {v v' : VertexAttributeValue} (e : v ≡ v') where
+  -- there is room for each number of a value that has the type's shape
+  pub shape_room : (at n : ℕ) → has_shape t v ≡ true → at + size_of t ≤ n → at + length (numbers_of v') * width_of t ≤ n
+  shape_room at n shape h = rw (← e, shape_size t v shape) h
+
+  -- its numbers one behind the other are its encoding
+  pub value_written : (s : List ℕ) (at : ℕ) {u : List ℕ} → u ≡ overwrite s at (run (width_of t) (map (stored_as t) (numbers_of v'))) → u ≡ overwrite s at (encoded_bytes t v)
+  unfolding encoded_bytes
+  value_written s at h = rw e h
+
+-- no number, no change
+pub nothing_written : (k : ℕ) (s : List ℕ) (at : ℕ) → s ≡ overwrite s at (run k [])
+unfolding run
+nothing_written k s at = sym (overwrite-none s at)
 
 -- ---- what is read again
 

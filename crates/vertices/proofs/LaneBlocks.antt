@@ -21,7 +21,7 @@ use Rattle.vertices.proofs.LaneLaws.{word_is, all_words, lane_reads}
 
 module _ {p : UnifiedPlan} {s : List ℕ} {stride first end j : ℕ} {b t : List ℕ} (c : BlockWritten p s stride first end j b t) where
   -- one lane more
-  pub Block-turn : j < 21 → {u : List ℕ} → LaneWritten (lane_of p j) stride s (record { first = first; end = end; word = j }) t u → BlockWritten p s stride first end (j + 1) b u
+  pub Block-turn : j < 21 → {u : List ℕ} → LaneWritten (lane_of p j) stride s (record { block = record { first = first; end = end }; word = j }) t u → BlockWritten p s stride first end (j + 1) b u
   Block-turn low l =
       let kept : (q : ℕ) → part t (4 * q) 4 ≡ word_at p s stride q → part _ (4 * q) 4 ≡ word_at p s stride q =
       λ q h. l.kept q (word_at p s stride q) (λ i e. word_is p s stride q i j e low) h in
@@ -37,7 +37,7 @@ module _ {p : UnifiedPlan} {s : List ℕ} {stride first end j : ℕ} {b t : List
       }
 
   -- what the next lane needs: a constant that stood in b stands still
-  pub LaneReady_lem : j < 21 → BlockReady p stride first end s b → LaneReady (lane_of p j) stride (record { first = first; end = end; word = j }) s t
+  pub LaneReady_lem : j < 21 → BlockReady p stride first end s b → LaneReady (lane_of p j) stride (record { block = record { first = first; end = end }; word = j }) s t
   unfolding lane_bytes
   LaneReady_lem low k = record {
     fits = record { word = low; order = k.order; short = k.short; room = omega (arith, k.room, c.same) };

@@ -1,13 +1,13 @@
 -- Laws of lanes: the 21 words of a unified vertex are what its lanes give, and a lane reads inside the data where its component ends inside.
 use mathlib.Core.Path.{◌≡◌, refl, sym, ap, ◌∙◌}
 use mathlib.Core.Bool.{Bool, true, false, cond}
-use mathlib.Core.List.{List, ◌++◌, append_assoc, append-nil}
+use mathlib.Core.List.{List, [], ◌∷◌, ◌++◌, append_assoc, append-nil}
 use Prim.Native.Nat.{ℕ, zero, suc, ◌+◌, ◌-◌, ◌*◌, ◌/◌, ◌%◌, ◌≤◌, ◌<◌}
 use native.Mathlib.Nat.{add_assoc, add-suc, add-zero}
 use native.Mathlib.Omega.{arith}
 use borrow.Author.Tests.{ltb-true}
 use lib.Dec.{eqb, ltb, lit<}
-use lib.ListN.{length, take, drop, length-drop, take-append-drop}
+use lib.ListN.{get_or, length, take, drop, length-drop, take-append-drop}
 use lib.Seq.{take-add, take_all}
 use Rattle.sections.specs.Edit.{part, overwrite}
 use Rattle.sections.specs.Le.{bytes}
@@ -27,6 +27,17 @@ use Rattle.vertices.specs.declared.lane.Lane.TheVariants.{Constant}
 use Rattle.vertices.specs.declared.unify.UnifiedPlan.{UnifiedPlan}
 use Rattle.vertices.proofs.AttributeLaws.{two_of_four, three_of_four}
 use Rattle.vertices.proofs.UnifiedBytes.{length-run_of}
+
+-- ---- what a normal has where a vertex has none, by the place in it: the search does not split three places
+
+normal_at : (j k : ℕ) → k < 3 → j ≡ k + 3 → get_or (0 ∷ 0 ∷ 0x3F800000 ∷ []) k 0 ≡ default_word j
+normal_at j zero h e = rw e refl
+normal_at j (suc zero) h e = rw e refl
+normal_at j (suc (suc zero)) h e = rw e refl
+normal_at j (suc (suc (suc k))) h e = absurd (omega arith)
+
+pub normal_default : (j : ℕ) → 3 ≤ j → j < 6 → get_or (0 ∷ 0 ∷ 0x3F800000 ∷ []) (j - 3) 0 ≡ default_word j
+normal_default j low high = normal_at j (j - 3) (omega arith) (omega arith)
 
 -- ---- the words of a field
 

@@ -1,7 +1,7 @@
 -- A unified vertex written out: its length, that of all vertices, and four bytes stored one by one.
 use mathlib.Core.Path.{◌≡◌, refl, ap, ◌∙◌}
-use mathlib.Core.List.{List, ◌++◌}
-use Prim.Native.Nat.{ℕ, zero, suc, ◌+◌, ◌*◌, ◌≤◌, ◌<◌}
+use mathlib.Core.List.{List, [], ◌∷◌, ◌++◌}
+use Prim.Native.Nat.{ℕ, zero, suc, ◌+◌, ◌*◌, ◌%◌, ◌≤◌, ◌<◌}
 use native.Mathlib.Nat.{mul_comm, suc-mul}
 use native.Mathlib.Omega.{arith}
 use lib.ListN.{length, set, length-append}
@@ -34,6 +34,16 @@ unfolding unified_run
 length-unified_run d s stride count = length-run_of _ count ∙ mul_comm count 84
 
 -- ---- stores
+
+-- four bytes, as they are written
+pub four_bytes : (v : Bytes4) → v.a < 256 → v.b < 256 → v.c < 256 → v.d < 256 → v.a ∷ v.b ∷ v.c ∷ v.d ∷ [] ≡ bytes4_bytes v
+unfolding run bytes
+four_bytes v a b c d =
+    let p : v.a % 256 ≡ v.a = omega arith in
+    let q : v.b % 256 ≡ v.b = omega arith in
+    let r : v.c % 256 ≡ v.c = omega arith in
+    let t : v.d % 256 ≡ v.d = omega arith in
+    rw (p, q, r, t)
 
 -- four bytes
 pub four_stores : (s : List ℕ) (at : ℕ) (v : Bytes4) → at + 4 ≤ length s → v.a < 256 → v.b < 256 → v.c < 256 → v.d < 256

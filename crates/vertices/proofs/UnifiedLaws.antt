@@ -6,7 +6,7 @@ use mathlib.Core.List.{List}
 use Prim.Native.Nat.{ℕ, zero, suc, ◌+◌, ◌-◌, ◌*◌, ◌/◌, ◌%◌, ◌^◌, ◌≤◌, ◌<◌}
 use native.Mathlib.Nat.{mul-le-mul_right, suc-mul}
 use native.Mathlib.Omega.{arith}
-use borrow.Author.Tests.{le-leb}
+use borrow.Author.Tests.{le-leb, lt-leb}
 use lib.Dec.{lit<}
 use lib.ListN.{length}
 use Rattle.sections.specs.Edit.{overwrite}
@@ -107,6 +107,16 @@ pub room_told : (n room : ℕ) {m : ℕ} → fitting n room ≡ Ok m → (n ≤ 
 room_told n room h = ⊎_elim (λ p. (p.1, grind (arith, p.0, h))) (λ p. absurd (grind (arith, p.0, h))) (leb_tells n room)
 
 module _ {d : VertexDeclaration} {s : List ℕ} {stride count : ℕ} {out : List ℕ} where
+  -- check 9 fails
+  pub Unified-outside : vertices_inside d (length s) stride count ≡ false → Unified d s stride count out (Err OutsideData) out
+  Unified-outside e = record { answer = rw e; bytes = rw e }
+
+  -- check 10 fails
+  pub Unified-short : vertices_inside d (length s) stride count ≡ true → length out < 84 * count → Unified d s stride count out (Err (NeedsBytes (record { 0 = 84 * count }))) out
+  Unified-short e h =
+      let no = lt-leb (0 + 84 * count) (length out) (omega arith) in
+      record { answer = rw (e, no); bytes = rw (e, no) }
+
   -- accepted
   pub Unified-written : {t : List ℕ} → vertices_inside d (length s) stride count ≡ true → 84 * count ≤ length out → t ≡ overwrite out 0 (unified_run d s stride count)
       → Unified d s stride count out (Ok (84 * count)) t

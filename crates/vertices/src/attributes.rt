@@ -5,8 +5,8 @@ ghost use Rattle.vertices.specs.Attribute.{attribute_check, attributes_of, compo
 
 use crate::attribute::{VertexAttribute, attribute_at};
 use crate::components::Components;
-use crate::declaration::VertexDeclaration;
 use crate::types::VertexComponent;
+use crate::vertices::Vertices;
 use std::marker::Model;
 use std::{error, fmt};
 
@@ -82,29 +82,27 @@ impl<'a> ExactSizeIterator for Attributes<'a> {
 // The components of one vertex, each beside its value. Check 8: there is such a vertex. Check 9: every component that has bytes lies
 // inside the data.
 pub fn read_vertex_attributes<'a>(
-    data: &'a [u8],
-    vertex_stride: u16,
-    vertex_count: u32,
-    declaration: VertexDeclaration,
-    vertex_index: u64,
+    vertices: Vertices<'a>,
+    index: u64,
 ) -> Result<Attributes<'a>, AttributeError>
-    ensures { result ≡ attributes_of «data».now vertex_stride vertex_count declaration vertex_index }
+    ensures { result ≡ attributes_of vertices.entry.«data».now vertices.entry.stride vertices.entry.count vertices.entry.declaration index }
 {
-    if vertex_index >= u64::from(vertex_count) {
+    if index >= u64::from(vertices.count) {
         return Err(AttributeError::NoSuchVertex);
     }
-    let base = vertex_index as usize * usize::from(vertex_stride);
-    let inside = declaration
+    let data = vertices.data;
+    let base = vertices.base_of(index as usize);
+    let inside = vertices
+        .declaration
         .components()
         .all(|component| component_inside(data, base, component));
     if !inside {
         return Err(AttributeError::ComponentOutside);
     }
-    let components = declaration.components();
     Ok(Attributes {
         data,
         base,
-        components,
+        components: vertices.declaration.components(),
     })
 }
 

@@ -1,6 +1,6 @@
 // Locating the vertices of a geometry: the layouts of a vertex buffer block, tried in order, then the geometry's own pointer.
-ghost use Rattle.std.specs.Prelude.{◌≡◌};
-ghost use Rattle.vertices.specs.Buffer.{layout_number, vertex_data, stored_declaration, or_position_only, found_at, legacy_at, block_buffer, vertex_buffer_at};
+ghost use Rattle.std.specs.Prelude.{◌≡◌, ◌*◌, ◌<◌};
+ghost use Rattle.vertices.specs.Buffer.{layout_number, vertex_data, stored_declaration, or_position_only, legacy_at, block_buffer, vertex_buffer_at};
 
 use crate::declaration::{VertexDeclaration, read_declaration};
 use sections::{Located, ResReader, u16_le, u32_le, u64_le};
@@ -49,6 +49,13 @@ impl VertexBuffer {
     {
         self.declaration
             .unwrap_or_else(|| VertexDeclaration::position_only(self.vertex_stride))
+    }
+
+    // The bytes of all vertices.
+    pub fn size(self) -> usize
+        ensures { (result ≡ self.vertex_count * self.vertex_stride) × (result < 281474976710656) }
+    {
+        self.vertex_count as usize * usize::from(self.vertex_stride)
     }
 }
 
@@ -139,7 +146,7 @@ fn vertex_data(reader: &ResReader, stream: Stream) -> Option<Located>
     }
     reader.locate(
         stream.pointer,
-        stream.count as usize * stream.stride as usize,
+        stream.count as usize * usize::from(stream.stride),
     )
 }
 

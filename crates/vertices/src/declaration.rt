@@ -33,7 +33,7 @@ pub fn read_declaration(raw: &[u8], off: usize) -> VertexDeclaration
     }
 }
 
-// False, with nothing changed, where the 16 bytes do not fit.
+// False, with nothing changed, where the 16 bytes do not fit. A bool, not a Result: there is one reason, and callers that know the room drop the answer.
 pub fn write_declaration(buf: &mut [u8], off: usize, d: VertexDeclaration) -> bool
     ensures { Edited (fits buf.old off 16) buf.old off (declaration_bytes d) result buf.new }
 {

@@ -1,5 +1,5 @@
 // Encoding: a value as the bytes of a component type.
-ghost use Rattle.std.specs.Prelude.{◌≡◌, ◌&&◌, true, ◌∷◌, [], map, ◌+◌, ◌*◌, ◌≤◌, length};
+ghost use Rattle.std.specs.Prelude.{◌≡◌, ◌&&◌, true, map, ◌+◌, ◌*◌, ◌≤◌, length};
 ghost use Rattle.sections.specs.Edit.{overwrite, fits, Edited};
 ghost use Rattle.sections.specs.Le.{bytes};
 ghost use Rattle.vertices.specs.Types.{size_of};
@@ -36,7 +36,8 @@ pub fn has_shape(component_type: VertexComponentType, value: VertexAttributeValu
     )
 }
 
-// Writes all the bytes of the value. False, with nothing changed, where it has another shape or does not fit.
+// Writes all the bytes of the value. False, with nothing changed, where it has another shape or does not fit. A bool, not a Result: `set_attribute` of
+// halls, which calls it, has tested the shape and knows that there is room, and drops the answer.
 pub fn encode_value(
     buf: &mut [u8],
     off: usize,
@@ -45,7 +46,7 @@ pub fn encode_value(
 ) -> bool
     ensures { Edited (has_shape component_type value && fits buf.old off (size_of component_type)) buf.old off (encoded_bytes component_type value) result buf.new }
 {
-    let size = component_type.size_in_bytes() as usize;
+    let size = usize::from(component_type.size_in_bytes());
     if !has_shape(component_type, value) || !sections::ends_inside(off, size, buf.len()) {
         return false;
     }
@@ -53,22 +54,14 @@ pub fn encode_value(
     true
 }
 
+// The bytes of each value, 0 of a type that has none.
 fn width_of(component_type: VertexComponentType) -> usize
     ensures { result ≡ width_of component_type }
 {
-    match component_type {
-        VertexComponentType::Rgba8Snorm
-        | VertexComponentType::UByte4
-        | VertexComponentType::Colour => 1,
-        VertexComponentType::Half2 | VertexComponentType::Half4 => 2,
-        VertexComponentType::Float
-        | VertexComponentType::Float2
-        | VertexComponentType::Float3
-        | VertexComponentType::Float4 => 4,
-        VertexComponentType::Nothing
-        | VertexComponentType::FloatUnknown
-        | VertexComponentType::Unknown(_) => 0,
-    }
+    let width = component_type
+        .size_in_bytes()
+        .checked_div(component_type.component_count());
+    usize::from(width.unwrap_or(0))
 }
 
 // A value of the type's shape, whose bytes are known to fit.
@@ -103,12 +96,7 @@ fn put_value(
                 buf,
                 off,
                 component_type,
-                &[
-                    u32::from(b.a),
-                    u32::from(b.b),
-                    u32::from(b.c),
-                    u32::from(b.d),
-                ],
+                &[b.a, b.b, b.c, b.d].map(u32::from),
             );
         }
         VertexAttributeValue::Unsupported => {}

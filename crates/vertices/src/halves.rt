@@ -6,12 +6,17 @@ ghost use Rattle.vertices.specs.Half.{decoded, encoded, f16_to_f32, f32_to_f16};
 ghost use Rattle.vertices.specs.Normalised.{number};
 ghost use Rattle.vertices.specs.Inner.Small.{small};
 
+use crate::values::{INFINITY, SIGN};
+
+// The bits of 65,536, from which on a float is an infinite half.
+pub const INFINITE: u32 = 0x4780_0000;
+
 // The float's bits that stand for the same number as the half's, for the same infinity, or for a NaN with the same sign and payload.
 pub fn f16_to_f32(value: u16) -> u32
     ensures { result ≡ f16_to_f32 value }
 {
     let bits = u32::from(value);
-    bits / 0x8000 * 0x8000_0000 + float_below_sign(bits % 0x8000)
+    bits / 0x8000 * SIGN + float_below_sign(bits % 0x8000)
 }
 
 // The bits below the sign move to their places in a float, whose exponent's field is 112 more. Of a subnormal half that makes 2^-15 and half
@@ -24,7 +29,8 @@ fn float_below_sign(rest: u32) -> u32
     f32::to_bits(moved + not_above_zero(moved - 0.00006103515625)) + all_ones(rest)
 }
 
-// `f32::min` makes a second comparison, for a NaN: 1.2 times the time in a loop.
+// `f32::min` makes a second comparison, for a NaN: halves to floats then take 1.18 times the time, and at 1.10 to 1.43 of the original's they are above the
+// 0.45 that docs/PERFORMANCE.md wants already.
 fn not_above_zero(x: f32) -> f32
     ensures { result ≡ cond (lt x (number 0)) x (number 0) }
 {
@@ -48,7 +54,7 @@ fn all_ones(rest: u32) -> u32
 pub fn f32_to_f16(bits: u32) -> u16
     ensures { result ≡ f32_to_f16 bits }
 {
-    with_sign(bits, half_below_sign(bits % 0x8000_0000))
+    with_sign(bits, half_below_sign(bits % SIGN))
 }
 
 // The same for a float below 65,536 in size.
@@ -56,7 +62,7 @@ pub fn small_f32_to_f16(bits: u32) -> u16
     requires { small bits }
     ensures { result ≡ f32_to_f16 bits }
 {
-    with_sign(bits, half_of_small(bits % 0x8000_0000))
+    with_sign(bits, half_of_small(bits % SIGN))
 }
 
 // The sign of a float before the half of what is below it.
@@ -64,17 +70,17 @@ fn with_sign(bits: u32, rest: u32) -> u16
     requires { rest ≡ encoded (bits % 2147483648) }
     ensures { result ≡ f32_to_f16 bits }
 {
-    (bits / 0x8000_0000 * 0x8000 + rest) as u16
+    (bits / SIGN * 0x8000 + rest) as u16
 }
 
 fn half_below_sign(rest: u32) -> u32
     ensures { result ≡ encoded rest }
 {
-    if 0x7F80_0000 < rest {
+    if INFINITY < rest {
         // NaN.
         return 0x7E00 + rest / 0x2000 % 0x200;
     }
-    if 0x4780_0000 <= rest {
+    if INFINITE <= rest {
         // 65,536 and above, and infinity.
         return 0x7C00;
     }

@@ -6,7 +6,8 @@ ghost use Rattle.std.proofs.Common.{rules};
 ghost use Rattle.sections.specs.Edit.{part, overwrite};
 ghost use Rattle.sections.specs.Le.{le, bytes};
 
-// A number stored as its little-endian bytes.
+// A number stored as its little-endian bytes, at a place of a slice: what a run of them leaves is said of the whole slice. Three implementations and no macro:
+// the gate refuses an `impl` that a macro of the repository writes.
 pub trait Stored: Copy {
     ghost WIDTH: { ℕ };
 

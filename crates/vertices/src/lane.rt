@@ -1,16 +1,21 @@
 // What each word of a unified vertex is made from. A unified vertex is 21 words of 4 bytes, and each has one source, its lane, in every vertex: as_vec2 and
 // as_vec3 are the first words of as_vec4 for every type, and a colour or blend indices are one word.
-ghost use Rattle.std.specs.Prelude.{◌≡◌, ◌<◌, ◌≤◌};
+ghost use Rattle.std.specs.Prelude.{◌≡◌, ◌<◌};
 ghost use Rattle.vertices.specs.Unified.{holds_indices};
 ghost use Rattle.vertices.specs.Inner.Lanes.{element_lane, missing_word, place_lane, rgba8_lane, vector_lane, colour_lane, index_lane};
-ghost use Rattle.vertices.specs.Inner.Lanes.{default_word, lane_of};
+ghost use Rattle.vertices.specs.Inner.Lanes.{lane_of};
 
 use crate::types::{VertexComponent, VertexComponentType};
 use crate::unify::UnifiedPlan;
 use crate::values::F32;
 
-// `Bytes4::WHITE` as a word.
+// `Bytes4::WHITE` as a word, spelled out: the value of a constant calls no function.
 const WHITE: u32 = 0xFFFF_FFFF;
+
+// The words of a normal and of a tangent that a vertex has not: 1.0 in z, and in x and w.
+const NORMAL: [u32; 3] = [0, 0, F32::ONE.bits];
+
+const TANGENT: [u32; 4] = [F32::ONE.bits, 0, 0, F32::ONE.bits];
 
 // Where a word comes from. The number is an offset in the vertex, that of Constant the word itself.
 #[derive(Clone, Copy)]
@@ -29,31 +34,22 @@ pub enum Lane {
     Rgba8(VertexComponentType, usize),
 }
 
-// The lane of the word j, of 21, in the order of the fields.
-#[tactic(auto, unfolding(crate::specs::Inner::Lanes::lane_of, crate::specs::Inner::Lanes::front_lane, crate::specs::Inner::Lanes::back_lane))]
+// The lane of the word j, of 21, in the order of the fields. By number: a list of the 21 lanes would name each of them, and an enum of
+// the fields would need beside it the place in the field, which is a difference here.
+#[tactic(auto, using(crate::proofs::LaneLaws::normal_default), unfolding(crate::specs::Inner::Lanes::lane_of, crate::specs::Inner::Lanes::front_lane, crate::specs::Inner::Lanes::back_lane))]
 pub fn lane_of(plan: UnifiedPlan, j: usize) -> Lane
     ensures { result ≡ lane_of plan j }
 {
     match j {
         0..3 => vector_lane(plan.position, j, 0),
-        3..6 => vector_lane(plan.normal, j - 3, default_word(j)),
+        3..6 => vector_lane(plan.normal, j - 3, NORMAL[j - 3]),
         6 => colour_lane(plan.color0),
         7 => colour_lane(plan.color1),
         8..10 => vector_lane(plan.texcoord0, j - 8, 0),
         10..12 => vector_lane(plan.texcoord1, j - 10, 0),
-        12..16 => vector_lane(plan.tangent, j - 12, default_word(j)),
+        12..16 => vector_lane(plan.tangent, j - 12, TANGENT[j - 12]),
         16..20 => vector_lane(plan.blend_weights, j - 16, 0),
         _ => index_lane(plan.blend_indices),
-    }
-}
-
-// The defaults of a normal and of a tangent: 1.0 in z, and in x and w.
-fn default_word(j: usize) -> u32
-    ensures { result ≡ default_word j }
-{
-    match j {
-        5 | 12 | 15 => F32::ONE.bits,
-        _ => 0,
     }
 }
 

@@ -17,6 +17,7 @@ mod strips;
 mod types;
 mod unify;
 mod values;
+mod vertices;
 
 pub use attribute::{VertexAttribute, VertexAttributeValue, as_rgba8};
 pub use attributes::{AttributeError, Attributes, read_vertex_attributes};
@@ -31,3 +32,4 @@ pub use runs::{NeedsBytes, floats_to_halves, halves_to_floats};
 pub use types::{VertexComponent, VertexComponentType, VertexSemantic};
 pub use unify::{UnifiedVertex, UnifyError, unified_vertices};
 pub use values::{Bytes4, F32, Vec2, Vec3, Vec4};
+pub use vertices::Vertices;

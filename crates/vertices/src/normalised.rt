@@ -1,18 +1,15 @@
 // Normalised bytes and colours: a byte as a float and a float as a byte. A float is given and returned as its bits.
 //
-// Choices between floats stand here: `f32::min` and `f32::max` make a second comparison, for a NaN, 1.2 times the time in a loop, and `f32::clamp` keeps
-// a NaN and -0.0, which `cut` does not take.
+// Choices between floats stand here: `f32::min` and `f32::max` make a second comparison, for a NaN, 1.2 times the time in a loop, where floats to snorm (2.1 of
+// the original's time, wanted 0.8) and snorm to floats (2.6 and more, wanted 1.1) are above their goals already. `f32::clamp` keeps a NaN and -0.0, which `cut`
+// does not take.
 ghost use Rattle.std.specs.Prelude.{◌≡◌, cond, ◌-◌, ◌≤◌, T, ltb};
 ghost use Rattle.std.specs.Float.{binary32};
 ghost use Rattle.std.specs.Float.Ieee.{lt, nan_bits, to_unsigned};
 ghost use Rattle.vertices.specs.Normalised.{number, negative, at_least, snorm8_to_f32, unorm8_to_f32, f32_to_snorm8, colour_byte, f32_to_unorm8, snorm_colour8};
 ghost use Rattle.vertices.specs.Inner.Small.{plain};
 
-// The bits of infinity. What is above them, the sign left out, is a NaN's.
-const INFINITY: u32 = 0x7F80_0000;
-
-// The sign's bit.
-const SIGN: u32 = 0x8000_0000;
+use crate::values::{INFINITY, SIGN};
 
 // Whether the bits are a NaN's, at which `f32::from_bits` is not defined.
 fn is_nan(bits: u32) -> bool
@@ -26,7 +23,7 @@ fn is_nan(bits: u32) -> bool
 pub fn snorm8_to_f32(value: u8) -> u32
     ensures { result ≡ snorm8_to_f32 value }
 {
-    let signed = value.cast_signed() as f32;
+    let signed = f32::from(value.cast_signed());
     f32::to_bits(at_least_minus_one(signed * 31.0 * f32::from_bits(0x3985_2B5F)))
 }
 
@@ -43,7 +40,7 @@ fn at_least_minus_one(x: f32) -> f32
 pub fn unorm8_to_f32(value: u8) -> u32
     ensures { result ≡ unorm8_to_f32 value }
 {
-    f32::to_bits(value as f32 / 255.0)
+    f32::to_bits(f32::from(value) / 255.0)
 }
 
 // `value` without its fraction: a sum with 2^23 has the nearest whole number in its lowest bits, one too great where it is above `value`.
@@ -64,11 +61,11 @@ pub fn f32_to_snorm8(bits: u32) -> u8
     ensures { result ≡ f32_to_snorm8 bits }
 {
     let size = cut(at_most(127.0, f32::from_bits(or_zero(bits % SIGN)) * 127.0));
-    (with_sign(bits, size) % 256) as u8
+    (twos_complement(bits, size) % 256) as u8
 }
 
-// Not by `wrapping_neg` of the byte: small runs of usual floats then take 4.5 times the time of the Rust, and by this 2.2.
-fn with_sign(bits: u32, size: u32) -> u32
+// Not by `wrapping_neg` of the byte: small runs of usual floats then take 4.5 times the time of the original, by this 2.2, and 0.8 is wanted.
+fn twos_complement(bits: u32, size: u32) -> u32
     requires { size ≤ 256 }
     ensures { result ≡ cond (ltb bits 2147483648) size (256 - size) }
 {

@@ -12,90 +12,73 @@ use crate::attribute::{bytes4_at, float_at, half_at, rgba8_at, snorm_at, unorm_a
 use crate::known::Stored;
 use crate::lane::Lane;
 use crate::values::{Bytes4, F32};
+use crate::vertices::Vertices;
 
-// The word `word` of the vertices from `first` to `end`.
+// Vertices that are written together, from `first` to `end`. A `Range` is no `Copy`, and each strip of the block has its own.
 #[derive(Clone, Copy)]
-pub struct Strip {
+pub struct Block {
     pub first: usize,
     pub end: usize,
+}
+
+// The word `word` of the vertices of a block.
+#[derive(Clone, Copy)]
+pub struct Strip {
+    pub block: Block,
     pub word: usize,
 }
 
-// Bytes of a unified vertex.
-pub const SIZE: usize = 84;
+// Words of a unified vertex.
+pub const WORDS: usize = 21;
 
-// Where a vertex starts.
-pub fn base_of(index: usize, stride: u16) -> usize
-    requires { index < 4294967296 }
-    ensures { (result ≡ index * stride) × (result < 281474976710656) }
-{
-    index * usize::from(stride)
-}
+// Bytes of a unified vertex.
+pub const SIZE: usize = 4 * WORDS;
 
 // One strip, from vertices that begin at b each. A constant is written in the first block only: a later one begins as a copy of that.
-pub fn write_strip(data: &[u8], stride: u16, lane: Lane, out: &mut [u8], strip: Strip)
-    requires { LaneReady lane stride strip «data».now out.old }
-    ensures { LaneWritten lane stride «data».now strip out.old out.new }
+pub fn write_strip(vertices: Vertices, lane: Lane, out: &mut [u8], strip: Strip)
+    requires { LaneReady lane vertices.stride strip vertices.«data».now out.old }
+    ensures { LaneWritten lane vertices.entry.stride vertices.entry.«data».now strip out.old out.new }
 {
+    let data = vertices.data;
     match lane {
-        Lane::Constant(bits) => constant_strip(bits, data, stride, out, strip),
-        Lane::Word(off) => strip_of(lane, |b| float_at(data, b + off), data, stride, out, strip),
-        Lane::Half(off) => strip_of(lane, |b| half_at(data, b + off), data, stride, out, strip),
-        Lane::Snorm(off) => strip_of(lane, |b| snorm_at(data, b + off), data, stride, out, strip),
-        Lane::Unorm(off) => strip_of(lane, |b| unorm_at(data, b + off), data, stride, out, strip),
-        Lane::Raw(off) => strip_of(lane, |b| bytes4_at(data, b + off), data, stride, out, strip),
-        Lane::Rgba8(kind, off) => {
-            strip_of(
-                lane,
-                |b| rgba8_at(data, b + off, kind),
-                data,
-                stride,
-                out,
-                strip,
-            );
-        }
+        Lane::Constant(_) if 0 < strip.block.first => {}
+        Lane::Constant(bits) => strip_of(vertices, lane, |_b| F32 { bits }, out, strip),
+        Lane::Word(off) => strip_of(vertices, lane, |b| float_at(data, b + off), out, strip),
+        Lane::Half(off) => strip_of(vertices, lane, |b| half_at(data, b + off), out, strip),
+        Lane::Snorm(off) => strip_of(vertices, lane, |b| snorm_at(data, b + off), out, strip),
+        Lane::Unorm(off) => strip_of(vertices, lane, |b| unorm_at(data, b + off), out, strip),
+        Lane::Raw(off) => strip_of(vertices, lane, |b| bytes4_at(data, b + off), out, strip),
+        Lane::Rgba8(kind, off) => strip_of(
+            vertices,
+            lane,
+            |b| rgba8_at(data, b + off, kind),
+            out,
+            strip,
+        ),
     }
 }
 
-fn constant_strip(bits: u32, data: &[u8], stride: u16, out: &mut [u8], strip: Strip)
-    requires { LaneReady (Constant bits) stride strip «data».now out.old }
-    ensures { LaneWritten (Constant bits) stride «data».now strip out.old out.new }
-{
-    if 0 < strip.first {
-        return;
-    }
-    strip_of(
-        Lane::Constant(bits),
-        |_b| F32 { bits },
-        data,
-        stride,
-        out,
-        strip,
-    );
-}
-
-// A loop of its own for each kind of lane: `word` gives the word of the vertex at a place, and `lane` and `data` say which that is.
-// They serve the contract alone, and are no ghost values: a caller picks such a value from the other arguments, which do not give them.
+// A loop of its own for each kind of lane: `word` gives the word of the vertex that begins at a place of the data. `lane` serves the contract alone, which says
+// by it what that word is. It is no ghost argument: at a call the check finds such a one in the other arguments, and none of them names the lane.
 fn strip_of<V: FourBytes, W: Fn(usize) -> V>(
+    vertices: Vertices,
     lane: Lane,
     word: W,
-    data: &[u8],
-    stride: u16,
     out: &mut [u8],
     strip: Strip,
 )
-    requires ready { LaneReady lane stride strip «data».now out.old }
-    requires callable { (at : ℕ) → Reads lane at (length «data».now) → W.pre word at }
-    requires words { (at : ℕ) (v : V) → W.post word at v → V.bytes v ≡ lane_bytes lane «data».now at }
-    ensures { LaneWritten lane stride «data».now strip out.old out.new }
+    requires ready { LaneReady lane vertices.stride strip vertices.«data».now out.old }
+    requires callable { (at : ℕ) → Reads lane at (length vertices.«data».now) → W.pre word at }
+    requires words { (at : ℕ) (v : V) → W.post word at v → V.bytes v ≡ lane_bytes lane vertices.«data».now at }
+    ensures { LaneWritten lane vertices.entry.stride vertices.entry.«data».now strip out.old out.new }
 {
-    for i in strip.first..strip.end {
+    for i in strip.block.first..strip.block.end {
         let at = i * SIZE + 4 * strip.word;
-        word(base_of(i, stride)).put(out, at);
+        word(vertices.base_of(i)).put(out, at);
     }
 }
 
-// A value as its four bytes.
+// A value as its four bytes. They go to a place of `out`, not into a part of it: what a strip leaves is said of all of `out`.
 trait FourBytes {
     ghost bytes: { Self → List ℕ };
 
@@ -116,9 +99,6 @@ impl FourBytes for Bytes4 {
     ghost bytes = { λ v. bytes4_bytes v };
 
     fn put(self, out: &mut [u8], at: usize) {
-        out[at] = self.a;
-        out[at + 1] = self.b;
-        out[at + 2] = self.c;
-        out[at + 3] = self.d;
+        out[at..at + 4].copy_from_slice(&[self.a, self.b, self.c, self.d]);
     }
 }

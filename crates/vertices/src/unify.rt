@@ -8,10 +8,12 @@ ghost use Rattle.vertices.specs.Inner.Lanes.{BlockReady, BlockWritten, BlockBegu
 use crate::declaration::VertexDeclaration;
 use crate::lane::lane_of;
 use crate::runs::{NeedsBytes, fitting};
-use crate::strips::{SIZE, Strip, base_of, write_strip};
+use crate::strips::{Block, SIZE, Strip, WORDS, write_strip};
 use crate::types::{VertexComponent, VertexSemantic};
 use crate::values::{Bytes4, Vec2, Vec3, Vec4};
+use crate::vertices::Vertices;
 use sections::copy_within;
+use std::{error, fmt};
 
 #[derive(Clone, Copy)]
 pub struct UnifiedVertex {
@@ -32,6 +34,19 @@ pub enum UnifyError {
     OutsideData,
     NeedsBytes(NeedsBytes),
 }
+
+impl fmt::Display for UnifyError {
+    fn fmt<W: fmt::Write>(&self, f: &mut fmt::Formatter<W>) -> fmt::Result {
+        match self {
+            Self::OutsideData => f.write_str(
+                "a component of a vertex does not end inside the data",
+            ),
+            Self::NeedsBytes(needed) => write!(f, "{needed}"),
+        }
+    }
+}
+
+impl error::Error for UnifyError {}
 
 impl From<NeedsBytes> for UnifyError {
     ghost use Rattle.std.specs.Prelude.{◌≡◌};
@@ -58,34 +73,28 @@ pub struct UnifiedPlan {
     pub blend_indices: Option<VertexComponent>,
 }
 
-// Vertices that are written together.
+// Vertices of a block: 4,032 bytes, which `copy_within` moves at once.
 const BLOCK: usize = 48;
 
 // All vertices over the first bytes of out. A refusal leaves out as it was.
-pub fn unified_vertices(
-    data: &[u8],
-    vertex_stride: u16,
-    vertex_count: u32,
-    declaration: VertexDeclaration,
-    out: &mut [u8],
-) -> Result<u64, UnifyError>
-    ensures { Unified declaration «data».now vertex_stride vertex_count out.old result out.new }
+pub fn unified_vertices(vertices: Vertices, out: &mut [u8]) -> Result<u64, UnifyError>
+    ensures { Unified vertices.entry.declaration vertices.entry.«data».now vertices.entry.stride vertices.entry.count out.old result out.new }
 {
-    let count = vertex_count as usize;
-    if !vertices_inside(declaration, data.len(), vertex_stride, vertex_count) {
+    if !all_inside(vertices) {
         return Err(UnifyError::OutsideData);
     }
-    let size = fitting(SIZE * count, out.len())?;
-    unify_all(data, vertex_stride, count, plan_of(declaration), out);
+    let size = fitting(SIZE * vertices.count as usize, out.len())?;
+    unify_all(vertices, plan_of(vertices.declaration), out);
     Ok(size as u64)
 }
 
-// Whether every component of nonzero size of every vertex ends inside n bytes. It is enough to test the last vertex.
-fn vertices_inside(declaration: VertexDeclaration, n: usize, stride: u16, count: u32) -> bool
-    ensures { result ≡ vertices_inside declaration n stride count }
+// Whether every component of nonzero size of every vertex ends inside the data. It is enough to test the last vertex.
+fn all_inside(vertices: Vertices) -> bool
+    ensures { result ≡ vertices_inside vertices.entry.declaration (length vertices.entry.«data».now) vertices.entry.stride vertices.entry.count }
 {
-    let total = usize::from(declaration.size_in_bytes());
-    count == 0 || total == 0 || base_of((count - 1) as usize, stride) + total <= n
+    let count = vertices.count as usize;
+    let total = usize::from(vertices.declaration.size_in_bytes());
+    count == 0 || total == 0 || vertices.base_of(count - 1) + total <= vertices.data.len()
 }
 
 fn plan_of(declaration: VertexDeclaration) -> UnifiedPlan
@@ -104,47 +113,38 @@ fn plan_of(declaration: VertexDeclaration) -> UnifiedPlan
     }
 }
 
-// All vertices, in blocks of 48: 4,032 bytes, which `copy_within` moves at once.
-fn unify_all(data: &[u8], stride: u16, count: usize, plan: UnifiedPlan, out: &mut [u8])
-    requires { (count < 4294967296) × (84 * count ≤ length out.old) × ((i : ℕ) → i < count → Readable plan (i * stride) (length «data».now)) }
-    ensures { out.new ≡ overwrite out.old 0 (run_of (λ (i : ℕ). planned_vertex plan «data».now (i * stride)) count) }
+// All vertices, block by block.
+fn unify_all(vertices: Vertices, plan: UnifiedPlan, out: &mut [u8])
+    requires { (84 * vertices.count ≤ length out.old) × ((i : ℕ) → i < vertices.count → Readable plan (i * vertices.stride) (length vertices.«data».now)) }
+    ensures { out.new ≡ overwrite out.old 0 (run_of (λ (i : ℕ). planned_vertex plan vertices.entry.«data».now (i * vertices.entry.stride)) vertices.entry.count) }
 {
+    let count = vertices.count as usize;
     for first in (0..count).step_by(BLOCK) {
         let end = first + BLOCK.min(count - first);
-        begin_block(out, first, end);
-        unify_block(data, stride, plan, out, first, end);
+        let block = Block { first, end };
+        begin_block(out, block);
+        unify_block(vertices, plan, out, block);
     }
 }
 
 // A later block begins as a copy of the first, so that its constants stand.
-fn begin_block(out: &mut [u8], first: usize, end: usize)
-    requires { (first ≤ end) × (84 * end ≤ length out.old) × (0 < first → end - first ≤ first) }
-    ensures { BlockBegun first end out.old out.new }
+fn begin_block(out: &mut [u8], block: Block)
+    requires { (block.first ≤ block.end) × (84 * block.end ≤ length out.old) × (0 < block.first → block.end - block.first ≤ block.first) }
+    ensures { BlockBegun block.first block.end out.old out.new }
 {
+    let Block { first, end } = block;
     if first == 0 {
         return;
     }
     copy_within(out, 0, first * SIZE, (end - first) * SIZE);
 }
 
-// The vertices from `first` to `end`, one word of all of them after another.
-fn unify_block(
-    data: &[u8],
-    stride: u16,
-    plan: UnifiedPlan,
-    out: &mut [u8],
-    first: usize,
-    end: usize,
-)
-    requires { BlockReady plan stride first end «data».now out.old }
-    ensures { BlockWritten plan «data».now stride first end 21 out.old out.new }
+// The vertices of a block, one word of all of them after another.
+fn unify_block(vertices: Vertices, plan: UnifiedPlan, out: &mut [u8], block: Block)
+    requires { BlockReady plan vertices.stride block.first block.end vertices.«data».now out.old }
+    ensures { BlockWritten plan vertices.entry.«data».now vertices.entry.stride block.first block.end 21 out.old out.new }
 {
-    for j in 0..21 {
-        let strip = Strip {
-            first,
-            end,
-            word: j,
-        };
-        write_strip(data, stride, lane_of(plan, j), out, strip);
+    for word in 0..WORDS {
+        write_strip(vertices, lane_of(plan, word), out, Strip { block, word });
     }
 }

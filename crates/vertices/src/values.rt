@@ -27,7 +27,8 @@ pub struct Vec4 {
     pub w: F32,
 }
 
-// Four bytes, in the order in which the data holds them.
+// Four bytes, in the order in which the data holds them. The original's `[u8; 4]` as a struct, since contracts name its places, as those of a Vec4; the
+// conversions to and from an array would be longer than the four places that spell them out.
 #[derive(Clone, Copy, Debug, PartialEq, Eq)]
 pub struct Bytes4 {
     pub a: u8,
@@ -35,6 +36,12 @@ pub struct Bytes4 {
     pub c: u8,
     pub d: u8,
 }
+
+// The bits of infinity. What is above them, the sign left out, is a NaN's.
+pub(crate) const INFINITY: u32 = 0x7F80_0000;
+
+// The sign's bit.
+pub(crate) const SIGN: u32 = 0x8000_0000;
 
 impl F32 {
     pub const ZERO: F32 = F32 { bits: 0 };
@@ -51,7 +58,7 @@ impl Bytes4 {
     };
 }
 
-// `new` and `of` stand at each of the three: the functions of an `impl` that a macro writes have no clauses here, and an array's places have no names.
+// `new` and `of` stand at each of the three: the gate refuses an `impl` that a macro of the repository writes, and an array's places have no names.
 impl Vec2 {
     pub(crate) fn new(x: F32, y: F32) -> Self
         ensures { result ≡ record { x = x; y = y } }

@@ -2,7 +2,7 @@
 ghost use Rattle.std.specs.Prelude.{◌<◌};
 
 use sections::{u8_le, u16_le, u32_le};
-use std::fmt;
+use std::{array, fmt};
 use vertices::{
     f16_to_f32, f32_to_f16, f32_to_snorm8, f32_to_unorm8, snorm_colour8, snorm8_to_f32,
     unorm8_to_f32,
@@ -111,7 +111,8 @@ fn colours(bits: u32) -> u32 {
 fn three(record: &[u8], off: usize) -> u32
     requires { off < 8 }
 {
-    u32::from(u16_le(record, off)) + u32::from(u8_le(record, off + 2)) * 65536
+    let [a, b, c]: [u8; 3] = array::from_fn(|i| u8_le(record, off + i));
+    u32::from_le_bytes([a, b, c, 0])
 }
 
 fn widened(input: u32, record: &[u8], got: u32) -> Case {

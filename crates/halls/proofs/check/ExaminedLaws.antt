@@ -16,7 +16,7 @@ use Rattle.halls.specs.Inner.Order.{passed, too_large, failing, check_of, verdic
 use Rattle.halls.specs.Inner.Seeking.{Near}
 use Rattle.halls.specs.Parsing.{records_length, whole, follows, may_end, ordered, geometries_in, models_in, structured, parse}
 use Rattle.halls.specs.Records.{Record, records}
-use Rattle.halls.specs.Inner.Walk.{well_from, lowest_from, kind_count, units, units_from, left_of, before_of, Walked, limits_lowest, Found}
+use Rattle.halls.specs.Inner.Walk.{well_from, lowest_from, kind_count, units, units_from, is_empty, left_of, before_of, Walked, limits_lowest, Found}
 use Rattle.halls.specs.Verdict.{Sound, Fails}
 use Rattle.halls.specs.declared.check.pass.Mark.{Mark}
 use Rattle.halls.specs.declared.check.pass.Findings.{Findings}
@@ -26,7 +26,6 @@ use Rattle.halls.proofs.format.ParsingLaws.{structured-hall}
 use Rattle.halls.proofs.format.RecordLaws.{records-stop}
 use Rattle.halls.proofs.SoundLaws.{verdict-sound}
 use Rattle.halls.proofs.check.TallyLaws.{lowest_of_all, lowest_of_models, mapping-lowest, lowest_from_lem, count_models, count-geometries, image-units, size_by_mapping_lem, verdict-lowest}
-use Rattle.halls.proofs.check.WalkLaws.{is_empty_lem}
 
 -- ---- a record that is not a hall's
 
@@ -72,11 +71,11 @@ module _ (s : List ℕ) (below : (i : ℕ) → get_or s i 0 < 256) (t : Tally) (
   unfolding structured
   first-model = no-geometry-first (records s) (both_true (ordered 0 (records s)) _ (both_true (whole s) _ is-structured).1).0
 
-  lowest_is : min t.lowest (failing 12 (eqb t.left 0)) ≡ min passed (lowest_of_models hall)
+  lowest_is : min t.lowest (failing 12 (is_empty (left_of t))) ≡ min passed (lowest_of_models hall)
   unfolding lowest_from lowest_of_all same_numbers
   lowest_is =
       let all : lowest_from [] (records s) ≡ min passed (min passed (lowest_of_models hall)) = lowest_from_lem [] (records s) ∙ rw first-model in
-      let last : lowest_from (left_of s t) (records (drop t.at s)) ≡ failing 12 (eqb t.left 0) = ap (lowest_from (left_of s t)) no-records ∙ rw (is_empty_lem t.left (drop t.mapping s)) in
+      let last : lowest_from (left_of t) (records (drop t.at s)) ≡ failing 12 (is_empty (left_of t)) = ap (lowest_from (left_of t)) no-records in
       sym (ap (min t.lowest) last) ∙ sym w.lowest ∙ rw all (omega arith)
 
   models_are : t.summary.models ≡ length hall
@@ -104,7 +103,7 @@ module _ (s : List ℕ) (below : (i : ℕ) → get_or s i 0 < 256) (t : Tally) (
   unfolding limits_lowest
   tally_limits = (limits_low (leb t.summary.models 256 && leb t.summary.geometries 16384) (leb (1 + units (8 * t.summary.models) + t.summary.units) 4194304)).0
 
-  pub judged-as : (lowest : ℕ) → lowest ≡ min (min t.lowest (failing 12 (eqb t.left 0))) (limits_lowest t.summary.models t.summary.geometries t.summary.units) → judged (parse s) ≡ verdict_of lowest
+  pub judged-as : (lowest : ℕ) → lowest ≡ min (min t.lowest (failing 12 (is_empty (left_of t)))) (limits_lowest t.summary.models t.summary.geometries t.summary.units) → judged (parse s) ≡ verdict_of lowest
   judged-as lowest e =
       let same : lowest ≡ min (lowest_of_models hall) (whole_lowest hall) = e ∙ rw lowest_is (both-limits (every mapping_matches hall) refl) in
       verdict-is ∙ sym (ap (λ (n : ℕ). verdict_of n) same ∙ verdict-lowest hall (structured-hall s below is-structured).exact_bytes)
@@ -114,10 +113,10 @@ module _ (s : List ℕ) (below : (i : ℕ) → get_or s i 0 < 256) (t : Tally) (
       both-limits true m = rw (limits_are m) (omega (arith, (limits_low (counts_within_limits hall) (image_within_limit hall)).1))
       both-limits false m = rw (mapping-lowest hall m) (omega (arith, (limits_low (counts_within_limits hall) (image_within_limit hall)).0, tally_limits))
 
-  pub judged-fails : (lowest : ℕ) → lowest ≡ min (min t.lowest (failing 12 (eqb t.left 0))) (limits_lowest t.summary.models t.summary.geometries t.summary.units) → lowest < passed → judged (parse s) ≡ Fails (check_of lowest)
+  pub judged-fails : (lowest : ℕ) → lowest ≡ min (min t.lowest (failing 12 (is_empty (left_of t)))) (limits_lowest t.summary.models t.summary.geometries t.summary.units) → lowest < passed → judged (parse s) ≡ Fails (check_of lowest)
   judged-fails lowest e l = judged-as lowest e ∙ rw (lt-leb passed lowest l)
 
-  pub judged-sound : (lowest : ℕ) → lowest ≡ min (min t.lowest (failing 12 (eqb t.left 0))) (limits_lowest t.summary.models t.summary.geometries t.summary.units) → passed ≤ lowest → judged (parse s) ≡ Sound
+  pub judged-sound : (lowest : ℕ) → lowest ≡ min (min t.lowest (failing 12 (is_empty (left_of t)))) (limits_lowest t.summary.models t.summary.geometries t.summary.units) → passed ≤ lowest → judged (parse s) ≡ Sound
   judged-sound lowest e l = judged-as lowest e ∙ rw (le-leb passed lowest l)
 
   -- with the place that is nearest

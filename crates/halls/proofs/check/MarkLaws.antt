@@ -1,4 +1,5 @@
 -- The place that a pass is at: what is sought from it, at the start and behind a model's record or a geometry's four; and of these the nearest to what is sought.
+use Rattle.std.specs.Borrow.{Bor}
 use Rattle.std.specs.Prelude.{Some}
 use mathlib.Core.Path.{◌≡◌, refl, sym, ap, ◌∙◌}
 use mathlib.Core.Bool.{Bool, true, false, cond, ◌&&◌}
@@ -20,8 +21,8 @@ use Rattle.halls.proofs.check.SeekLaws.{place_here, place-next}
 
 -- ---- the start
 
-pub marked_start : (s : List ℕ) → Marked s (mark_of start_tally)
-marked_start s = record {
+pub marked_start : (s : List ℕ) (l : Bor (List ℕ)) → Marked s (mark_of (start_tally l))
+marked_start s l = record {
   within = omega arith;
   models-behind = λ k. let e : 0 + k ≡ k = omega arith in ap (λ (n : ℕ). sought s 0 1 n) e;
   model_is = λ h. absurd (omega (arith, h));
@@ -82,8 +83,8 @@ module _ (s : List ℕ) (p u : Mark) (w : Marked s p) (low : u.at ≤ length s) 
 
 -- ---- the nearest
 
-pub Near-start : (s : List ℕ) (m g : ℕ) {t : Tally} {p : Mark} → t ≡ start_tally → p ≡ mark_of t → Near s m g t.summary.models p
-Near-start s m g e f = rw (f, e) (record { marked = marked_start s; models_are = omega arith; own-few = omega arith })
+pub Near-start : (s : List ℕ) (m g : ℕ) {t : Tally} {p : Mark} (l : Bor (List ℕ)) → t ≡ start_tally l → p ≡ mark_of t → Near s m g t.summary.models p
+Near-start s m g l e f = rw (f, e) (record { marked = marked_start s l; models_are = omega arith; own-few = omega arith })
 
 module _ {s : List ℕ} {m g : ℕ} {t u : Tally} {p : Mark} (n : Near s m g t.summary.models p) (w : Marked s (mark_of u)) (on : Onward t u) where
   abbrev own : ℕ

@@ -3,7 +3,7 @@ use Rattle.std.specs.Prelude.{Option, None, Some, option_map}
 use mathlib.Core.Path.{◌≡◌, refl, sym, ap, ◌∙◌}
 use mathlib.Core.Bool.{Bool, true}
 use mathlib.Core.List.{List, ◌++◌, map, append_assoc}
-use Prim.Native.Nat.{ℕ, ◌+◌, ◌^◌, ◌≤◌, ◌<◌}
+use Prim.Native.Nat.{ℕ, ◌+◌, ◌*◌, ◌^◌, ◌≤◌, ◌<◌}
 use native.Mathlib.Omega.{arith}
 use lib.ListN.{length, take, drop, length-append, length-take, take-append-drop}
 use lib.Seq.{take_at, take-append-add, take-append-le, drop_at, drop-append-add, drop-append-le}
@@ -255,6 +255,21 @@ module _ {b : List ℕ} {n m g at : ℕ} (w : Spot b n m g at) where
       let l : length q ≡ 18 = simp (length-append, length-bytes) in
       let e : b ≡ before ++ (q ++ (bytes 2 f.stride ++ r)) = Spot-numbers ∙ simp append_assoc in
       field-there b before q r 2 f.stride at 18 w.place l Spot-InWidth.stride e
+
+  -- where its indices begin, as the finder tells it
+  pub Spot-indices : {p : GeometryPlace} → geometry_place (hall_in b n) m g ≡ Some p → p.indices ≡ at + 55 + field 2 b (at + 16) * field 2 b (at + 18)
+  Spot-indices {p} e =
+      let there = some-geometry (hall_in b n) m g x w.in-hall f w.InModel_lem in
+      let same : places_from (length (hall_bytes (take m (hall_in b n)))) (length before) f ≡ p = cc in
+      let s = Spot-sound in
+      rw (← same, Spot-count, Spot-stride) (omega (arith, w.place, s.content))
+
+  -- and its declaration and its vertex bytes
+  pub Spot-records : {p : GeometryPlace} → geometry_place (hall_in b n) m g ≡ Some p → (p.declaration + 6 ≡ at + 26) × (p.vertices + 13 ≡ at + 55)
+  Spot-records {p} e =
+      let there = some-geometry (hall_in b n) m g x w.in-hall f w.InModel_lem in
+      let same : places_from (length (hall_bytes (take m (hall_in b n)))) (length before) f ≡ p = cc in
+      (rw (← same) (omega (arith, w.place)), rw (← same) (omega (arith, w.place)))
 
   pub Spot-declaration : declaration_at b (at + 26) ≡ w.geometry.declaration
   unfolding part

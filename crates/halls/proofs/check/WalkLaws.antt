@@ -4,11 +4,14 @@ use mathlib.Core.Bool.{Bool, true, false, cond, ◌&&◌, ◌||◌}
 use mathlib.Core.List.{List, [], ◌∷◌}
 use mathlib.Core.Logic.{◌⊎◌, inl, inr}
 use Prim.Native.Nat.{ℕ, zero, suc, ◌+◌, ◌*◌, ◌-◌, ◌/◌, ◌≤◌, ◌<◌, min}
+use native.Mathlib.Nat.{add-zero, lt_of_not-le}
+use native.Mathlib.Decide.{dec_le}
 use native.Mathlib.Omega.{arith}
-use borrow.Author.Tests.{eq-eqb, ne_eqb, eqb-true}
-use lib.Dec.{eqb}
+use borrow.Author.Tests.{eq-eqb, ne_eqb, eqb-true, le-ltb, lt-ltb}
+use lib.Dec.{eqb, ltb}
 use lib.ListN.{length, take, drop, length-drop}
 use lib.Seq.{drop-drop, take_all}
+use Rattle.std.specs.Borrow.{Bor}
 use Rattle.std.specs.Prelude.{Option, Some, None}
 use Rattle.sections.specs.Edit.{part}
 use Rattle.sections.specs.Le.{field}
@@ -23,7 +26,7 @@ use Rattle.halls.specs.Inner.Judging.{lowest_of}
 use Rattle.halls.specs.Inner.Order.{passed, failing}
 use Rattle.halls.specs.Parsing.{whole, follows, may_end, ordered, exact, structured, geometry_in, mapping_count}
 use Rattle.halls.specs.Records.{Record, records}
-use Rattle.halls.specs.Inner.Walk.{front_of, well_from, leads, rest, is_empty, lowest_from, kind_count, model_units, geometry_units, units_from, left_of, start_tally, mark_of, before_of, Walked, Onward, Turned}
+use Rattle.halls.specs.Inner.Walk.{front_of, well_from, leads, rest, is_empty, entries_in, lowest_from, kind_count, model_units, geometry_units, units_from, left_of, start_tally, mark_of, before_of, Walked, Onward, Turned}
 use Rattle.halls.specs.declared.format.front.Front.TheVariants.{Model, Geometry}
 use Rattle.halls.specs.declared.check.pass.Tally.{Tally}
 use Rattle.halls.proofs.format.FrontLaws.{ModelFront, ModelFront_lem, records-model, well-model, FourRecords, FourRecords_lem, records-geometry, well-geometry, well_no-model, well_broken, content_length_lem, indices_length_lem, geometry-long}
@@ -42,6 +45,36 @@ rest_of : (n : ℕ) (s : List ℕ) (at : ℕ) → rest (numbers 2 n (drop at s))
 unfolding numbers
 rest_of zero s at = refl
 rest_of (suc n) s at = let e : suc n - 1 ≡ n = omega arith in rw (e, drop-drop 2 at s)
+
+-- of the entries in some bytes
+module _ (b : List ℕ) where
+  pub none-left : is_empty (entries_in b) ≡ ltb (length b) 2
+  none-left =
+      elim (dec_le 2 (length b)) [
+        | yes y ↦ is_empty_lem (length b / 2) b ∙ rw (ne_eqb (length b / 2) 0 (λ e. omega (arith, e, y)), le-ltb (length b) 2 y)
+        | no y ↦ let few = lt_of_not-le y in is_empty_lem (length b / 2) b ∙ rw (eq-eqb (length b / 2) 0 (omega (arith, few)), lt-ltb (length b) 2 few)
+      ]
+
+  rest_left : (k : ℕ) → k ≡ min (length b) 2 → rest (entries_in b) ≡ entries_in (drop k b)
+  unfolding numbers
+  rest_left k e =
+      let long : length (drop k b) ≡ length b - k = length-drop k b in
+      elim (dec_le 2 (length b)) [
+        | yes y ↦
+            let two : k ≡ 2 = omega (arith, e, y) in
+            let n : length b / 2 - 1 ≡ length (drop k b) / 2 = omega (arith, long, two, y) in
+            rest_of (length b / 2) b 0 ∙ rw (n, two)
+        | no y ↦
+            let few = lt_of_not-le y in
+            let zero-here : length b / 2 ≡ 0 = omega (arith, few) in
+            let zero-there : length (drop k b) / 2 ≡ 0 = omega (arith, long, few) in
+            rw (zero-here, zero-there)
+      ]
+
+entries_of_part : (s : List ℕ) (at n : ℕ) → at + 2 * n ≤ length s → entries_in (part s at (2 * n)) ≡ numbers 2 n (drop at s)
+entries_of_part s at n h =
+    let l : length (part s at (2 * n)) / 2 ≡ n = omega (arith, part_length s at (2 * n) h) in
+    rw l (numbers-part 2 n s at (2 * n) 0 (omega arith) ∙ ap (λ (i : ℕ). numbers 2 n (drop i s)) (add-zero at))
 
 -- ---- order
 
@@ -77,20 +110,19 @@ joined a b c = omega arith
 
 -- ---- start
 
-pub walk_start : (s : List ℕ) → Walked s start_tally
+pub walk_start : (s : List ℕ) (l : Bor (List ℕ)) → l.now ≡ [] → Walked s (start_tally l)
 unfolding structured well_from numbers
-walk_start s = record {
+walk_start s l none = record {
   within = omega arith;
   structure = refl;
-  lowest = refl;
+  lowest = ap (λ (b : List ℕ). min passed (lowest_from (entries_in b) (records s))) (sym none);
   models = omega arith;
   geometries = omega arith;
   image = omega arith;
-  mapping = omega arith;
   few = omega arith;
   small = omega arith;
   first = omega arith;
-  marked = marked_start s;
+  marked = marked_start s l;
 }
 
 -- ---- a model passed
@@ -130,16 +162,20 @@ module _ (s : List ℕ) (t : Tally) (w : Walked s t) (entries : ℕ) (e : Some (
       let n : mapping_count body ≡ entries = omega (arith, body_length_lem) in
       rw n (numbers-part 2 entries left 6 (6 + 2 * entries) 6 (omega arith) ∙ rw (drop-drop 12 t.at s))
 
-  lowest_step : lowest_from (left_of s t) (records left) ≡ min (failing 12 (eqb t.left 0)) (lowest_from (numbers 2 entries (drop (t.at + 12) s)) (records (drop next s)))
+  lowest_step : lowest_from (left_of t) (records left) ≡ min (failing 12 (is_empty (left_of t))) (lowest_from (numbers 2 entries (drop (t.at + 12) s)) (records (drop next s)))
   unfolding lowest_from
   lowest_step =
-      ap (lowest_from (left_of s t)) passed-record
-      ∙ rw (is_empty_lem t.left (drop t.mapping s), entries-read)
+      ap (lowest_from (left_of t)) passed-record ∙ rw entries-read
 
-  pub model-turned : (lowest image : ℕ) → lowest ≡ min t.lowest (failing 12 (eqb t.left 0)) → image ≡ t.summary.units + model_units entries
-      → Turned s t (Some (record { at = next; lowest = lowest; summary = record { models = t.summary.models + 1; geometries = t.summary.geometries; units = image }; model = t.at; first = t.summary.geometries; mapping = t.at + 12; left = entries }))
+  entries-left : (l : Bor (List ℕ)) {n : ℕ} → l.now ≡ take n (drop (t.at + 12) s) → n ≡ 2 * entries → entries_in l.now ≡ numbers 2 entries (drop (t.at + 12) s)
+  unfolding part
+  entries-left l e f = rw (e, f) (entries_of_part s (t.at + 12) entries ModelFits_lem)
+
+  pub model-turned : (lowest image : ℕ) (l : Bor (List ℕ)) {n : ℕ} → lowest ≡ min t.lowest (failing 12 (is_empty (left_of t))) → image ≡ t.summary.units + model_units entries
+      → l.now ≡ take n (drop (t.at + 12) s) → n ≡ 2 * entries
+      → Turned s t (Some (record { at = next; lowest = lowest; summary = record { models = t.summary.models + 1; geometries = t.summary.geometries; units = image }; model = t.at; first = t.summary.geometries; left = l }))
   unfolding Turned kind_count units_from
-  model-turned lowest image l i =
+  model-turned lowest image l o i r q =
       let ones : kind_count 1 (records left) ≡ 1 + kind_count 1 (records (drop next s)) = ap (kind_count 1) passed-record in
       let twos : kind_count 2 (records left) ≡ 0 + kind_count 2 (records (drop next s)) = ap (kind_count 2) passed-record in
       let n : mapping_count body ≡ entries = omega (arith, body_length_lem) in
@@ -147,11 +183,10 @@ module _ (s : List ℕ) (t : Tally) (w : Walked s t) (entries : ℕ) (e : Some (
         record {
           within = ModelFits_lem;
           structure = w.structure ∙ well-model left entries front (before_of t) (follows-model (eqb t.summary.models 0)) ∙ ap (well_from 1) behind ∙ well_same (drop next s) ∙ ap (λ (b : ℕ). well_from b (drop next s)) (sym (later (t.summary.models + 1) (omega arith)));
-          lowest = w.lowest ∙ ap (min t.lowest) lowest_step ∙ joined t.lowest (failing 12 (eqb t.left 0)) _ ∙ ap (λ (n : ℕ). min n (lowest_from (numbers 2 entries (drop (t.at + 12) s)) (records (drop next s)))) (sym l);
+          lowest = w.lowest ∙ ap (min t.lowest) lowest_step ∙ joined t.lowest (failing 12 (is_empty (left_of t))) _ ∙ rw (← o, entries-left l r q);
           models = omega (arith, w.models);
           geometries = omega (arith, w.geometries);
           image = omega (arith, w.image);
-          mapping = omega arith;
           few = omega (arith, w.few);
           small = omega (arith, w.small);
           first = omega arith;
@@ -205,33 +240,33 @@ module _ (s : List ℕ) (t : Tally) (w : Walked s t) (content held : ℕ) (e : S
   shader_is : read.shader ≡ field 2 s (t.at + 6)
   shader_is = field-part 2 here 6 14 0 (omega arith) (omega (arith, four.first.fits)) ∙ field-drop 2 s t.at 6 (omega (arith, four.first.fits, length-drop t.at s, w.within))
 
-  lowest-geometry : (answer found shader : ℕ) → shader ≡ field 2 s (t.at + 6) → answer ≡ failing 12 (leads shader (left_of s t)) → found ≡ lowest_of (front_geometry here)
-      → lowest_from (left_of s t) (records here) ≡ min (min answer found) (lowest_from (numbers 2 (t.left - 1) (drop (t.mapping + 2) s)) (records (drop beyond s)))
+  lowest-geometry : (answer found shader : ℕ) → shader ≡ field 2 s (t.at + 6) → answer ≡ failing 12 (leads shader (left_of t)) → found ≡ lowest_of (front_geometry here)
+      → lowest_from (left_of t) (records here) ≡ min (min answer found) (lowest_from (rest (left_of t)) (records (drop beyond s)))
   unfolding lowest_from
   lowest-geometry answer found shader x a f =
       let shader-same : read.shader ≡ shader = shader_is ∙ sym x in
-      ap (lowest_from (left_of s t)) passed-records
-      ∙ rw (a, f, read_is, shader-same, rest_of t.left s t.mapping)
+      ap (lowest_from (left_of t)) passed-records
+      ∙ rw (a, f, read_is, shader-same)
 
-  pub geometry-turned : (lowest image fewer answer found shader : ℕ) → (t.summary.models ≡ 0 → ⊥) → shader ≡ field 2 s (t.at + 6) → answer ≡ failing 12 (leads shader (left_of s t))
-      → found ≡ lowest_of (front_geometry here) → lowest ≡ min t.lowest (min answer found) → image ≡ t.summary.units + geometry_units content held → fewer ≡ t.left - 1
-      → Turned s t (Some (record { at = beyond; lowest = lowest; summary = record { models = t.summary.models; geometries = t.summary.geometries + 1; units = image }; model = t.model; first = t.first; mapping = t.mapping + 2; left = fewer }))
+  pub geometry-turned : (lowest image answer found shader : ℕ) (l : Bor (List ℕ)) (k : ℕ) → (t.summary.models ≡ 0 → ⊥) → shader ≡ field 2 s (t.at + 6) → answer ≡ failing 12 (leads shader (left_of t))
+      → found ≡ lowest_of (front_geometry here) → lowest ≡ min t.lowest (min answer found) → image ≡ t.summary.units + geometry_units content held → k ≡ min (length t.left.now) 2
+      → l.now ≡ drop k t.left.now
+      → Turned s t (Some (record { at = beyond; lowest = lowest; summary = record { models = t.summary.models; geometries = t.summary.geometries + 1; units = image }; model = t.model; first = t.first; left = l }))
   unfolding Turned kind_count units_from
-  geometry-turned lowest image fewer answer found shader m x a f l i r =
+  geometry-turned lowest image answer found shader l k m x a f o i c r =
       let ones : kind_count 1 (records here) ≡ kind_count 1 (records (drop beyond s)) = ap (kind_count 1) passed-records ∙ omega arith in
       let twos : kind_count 2 (records here) ≡ 1 + kind_count 2 (records (drop beyond s)) = ap (kind_count 2) passed-records ∙ omega arith in
-      let c : length (part here 48 (7 + content)) - 7 ≡ content = omega (arith, content_length_lem here content held four) in
+      let v : length (part here 48 (7 + content)) - 7 ≡ content = omega (arith, content_length_lem here content held four) in
       let h : (length (part here (61 + content) (4 + 4 * held)) - 4) / 4 ≡ held = omega (arith, indices_length_lem here content held four) in
-      let parts : units_from (records here) ≡ geometry_units content held + units_from (records (drop beyond s)) = ap units_from passed-records ∙ rw (c, h) in
+      let parts : units_from (records here) ≡ geometry_units content held + units_from (records (drop beyond s)) = ap units_from passed-records ∙ rw (v, h) in
       let before : before_of t ≡ 5 = later t.summary.models (omega arith) in (
         record {
           within = GeometryFits_lem;
           structure = w.structure ∙ rw before (well-geometry here content held four ∙ ap (well_from 5) behind-it);
-          lowest = w.lowest ∙ ap (min t.lowest) (lowest-geometry answer found shader x a f) ∙ joined t.lowest (min answer found) _ ∙ rw (l, r);
+          lowest = w.lowest ∙ ap (min t.lowest) (lowest-geometry answer found shader x a f) ∙ joined t.lowest (min answer found) _ ∙ rw (o, r, rest_left t.left.now k c);
           models = omega (arith, w.models);
           geometries = omega (arith, w.geometries);
           image = omega (arith, w.image);
-          mapping = omega (arith, w.mapping);
           few = omega (arith, w.few);
           small = omega (arith, w.small);
           first = omega (arith, w.first);
@@ -253,14 +288,17 @@ broken_stops s t w h e = w.structure ∙ well_broken (drop t.at s) (before_of t)
 
 -- ---- as the code tests
 
-pub answered-none : {left : ℕ} (s : List ℕ) (mapping shader : ℕ) → left ≡ 0 → 12 ≡ failing 12 (leads shader (numbers 2 left (drop mapping s)))
+pub leads-none : {left : ℕ} (s : List ℕ) (mapping shader : ℕ) → left ≡ 0 → leads shader (numbers 2 left (drop mapping s)) ≡ false
 unfolding numbers
-answered-none s mapping shader e = rw e
+leads-none s mapping shader e = rw e
 
-leads-first : (left : ℕ) (s : List ℕ) (mapping shader : ℕ) → (left ≡ 0 → ⊥) → mapping + 2 * left ≤ length s → leads shader (numbers 2 left (drop mapping s)) ≡ eqb (field 2 s mapping) shader
+pub leads-first : (left : ℕ) (s : List ℕ) (mapping shader : ℕ) → (left ≡ 0 → ⊥) → mapping + 2 * left ≤ length s → leads shader (numbers 2 left (drop mapping s)) ≡ eqb (field 2 s mapping) shader
 unfolding numbers part
 leads-first zero s mapping shader f h = absurd (f refl)
 leads-first (suc left) s mapping shader f h = rw (field_in 2 s mapping (omega arith))
+
+pub answered-none : {left : ℕ} (s : List ℕ) (mapping shader : ℕ) → left ≡ 0 → 12 ≡ failing 12 (leads shader (numbers 2 left (drop mapping s)))
+answered-none s mapping shader e = rw (leads-none s mapping shader e)
 
 pub answered_other : {left found : ℕ} (s : List ℕ) (mapping shader : ℕ) → (left ≡ 0 → ⊥) → mapping + 2 * left ≤ length s → found ≡ field 2 s mapping → (found ≡ shader → ⊥)
     → 12 ≡ failing 12 (leads shader (numbers 2 left (drop mapping s)))

@@ -419,26 +419,6 @@ entry_inserted b n entry shader {r} {r₂} {t} {u} h k moved put =
     Edited-fits 2 put (omega arith) ∙ ap (λ (l : List ℕ). overwrite l entry (bytes 2 shader)) first
     ∙ overwrite-ahead b entry 2 (bytes 2 shader) (part b entry d) (length-bytes 2 shader) (rw long to)
 
-units-join : (c h p q s t : ℕ) → p ≤ q → s ≤ t → 25 + c + h + (q - p) + (t - s) + (3 + p + s) ≡ 3 + q + t + (25 + c + h)
-units-join c h p q s t e f = omega arith
-
-eight-units : (e : ℕ) → units (8 * e) ≡ (e + 1) / 2
-eight-units e = omega arith
-
-two-units : (e : ℕ) → units (2 * e) ≡ (e + 7) / 8
-two-units e = omega arith
-
-next-eight : (e : ℕ) → units (8 * (e + 1)) ≡ (e + 2) / 2
-next-eight e = omega arith
-
-next-two : (e : ℕ) → units (2 * (e + 1)) ≡ (e + 8) / 8
-next-two e = omega arith
-
-pub units-grow : (e c h : ℕ) → 25 + (c + 15) / 16 + (h + 7) / 8 + ((e + 2) / 2 - (e + 1) / 2) + ((e + 8) / 8 - (e + 7) / 8) + model_units e ≡ model_units (e + 1) + geometry_units c h
-units-grow e c h =
-    rw (eight-units e, two-units e, next-eight e, next-two e, two-units h)
-    (units-join ((c + 15) / 16) ((h + 7) / 8) ((e + 1) / 2) ((e + 2) / 2) ((e + 7) / 8) ((e + 8) / 8) (omega arith) (omega arith))
-
 -- four records, one behind the other
 pub four-put : (s : List ℕ) (at k : ℕ) (g d v i : List ℕ) {t t₂ t₃ u : List ℕ} → length g ≡ 20 → length d ≡ 22 → length v ≡ 13 + k → at + (55 + k + length i) ≤ length s
     → t ≡ overwrite s at g → t₂ ≡ overwrite t (at + 20) d → t₃ ≡ overwrite t₂ (at + 42) v → u ≡ overwrite t₃ (at + 55 + k) i → u ≡ overwrite s at (g ++ (d ++ (v ++ i)))

@@ -25,7 +25,6 @@ use Rattle.halls.specs.Checks.{vertex_bytes_exact, strides_agree, components_ins
 use Rattle.halls.specs.Hall.{FullGeometry, FullModel, Hall, hall_bytes}
 use Rattle.halls.specs.ImageSize.{geometry_size, image_size}
 use Rattle.halls.specs.List.{record_bytes, geometry_record, indices_record}
-use Rattle.halls.specs.Places.{geometry_place}
 use Rattle.halls.specs.Reading.{read}
 use Rattle.halls.specs.State.{Geometry, vertex_count, full_geometry, full_model, hall_of}
 use Rattle.halls.specs.Step.{state_in, rewritten, Stepped}
@@ -34,8 +33,8 @@ use Rattle.halls.specs.Verdict.{Sound}
 use Rattle.halls.proofs.edit.ChangedLaws.{changed_hall, bytes_before, bytes_behind, bytes-changed, image-changed, verdict-changed}
 use Rattle.halls.proofs.edit.RewrittenLaws.{rewritten-start, rewritten-over}
 use Rattle.halls.proofs.SoundLaws.{SoundGeometry}
-use Rattle.halls.proofs.check.SpotLaws.{Spot, not_there, overwrite-inside, Spot-hall, Spot-passes, content_head, content-parts, content_head-length, Spot-bytes, Spot-inside, Spot-sound, Spot-count, Spot-stride, Spot-declaration, new-hall}
-use Rattle.halls.proofs.edit.StepLaws.{hall_in, Old, stays_barred, becomes-new}
+use Rattle.halls.proofs.check.SpotLaws.{Spot, overwrite-inside, Spot-hall, Spot-passes, content_head, content-parts, content_head-length, Spot-bytes, Spot-inside, Spot-sound, Spot-count, Spot-stride, Spot-declaration, new-hall}
+use Rattle.halls.proofs.edit.StepLaws.{hall_in, stays_barred, becomes-new}
 
 -- ---- the hall with other bytes in the geometry's vertex bytes
 
@@ -157,10 +156,6 @@ module _ (b : List ℕ) (n m g vertex semantic : ℕ) (value : VertexAttributeVa
 
   abbrev Refuses : ℕ → Type 0
   Refuses check = Stepped call b n (Err (record { check = check; needed = 0 })) b
-
-  pub set-nowhere : Old b n → None ≡ (geometry_place (hall_in b n) m g) → Refuses 21
-  unfolding proposed
-  set-nowhere o e = stays_barred call b n o 21 (not_there o m g _ e)
 
   module _ {at : ℕ} (w : Spot b n m g at) where
     pub set-no_vertex : {k : ℕ} → k ≡ field 2 b (at + 16) → k ≤ vertex → Refuses 21

@@ -48,9 +48,9 @@ read_small s m shader b = subst SmallGeometry (shown-is s shader b) (shown-small
 
 -- so many models and geometries, a geometry no more than `most`
 record Light (most models geometries : ℕ) (t : Taken) : Type 0 where
-  models_are : t.models ≡ models
-  geometries-are : t.geometries ≡ geometries
-  image : t.units ≤ models * 16 + geometries * most
+  models_are : t.summary.models ≡ models
+  geometries-are : t.summary.geometries ≡ geometries
+  image : t.summary.units ≤ models * 16 + geometries * most
   long : t.«length» ≤ models * 16 + geometries * most
 
 geometries-light : (gs : List Geometry) → Each SmallGeometry gs → Light (2 ^ 33) 0 (length gs) (all_taken geometry_taken gs)

@@ -4,16 +4,15 @@ use mathlib.Core.Bool.{Bool, true, false, cond, ◌&&◌}
 use mathlib.Core.List.{List, ◌++◌, append_assoc}
 use Prim.Native.Nat.{ℕ, ◌+◌, ◌*◌, ◌-◌, ◌/◌, ◌%◌, ◌≤◌, ◌<◌, min, max}
 use native.Mathlib.Omega.{arith}
-use borrow.Author.Tests.{le-leb}
+use borrow.Author.Tests.{eq-eqb, ne_eqb, le-leb, lt-leb}
 use lib.Dec.{eqb, leb, ltb}
 use lib.ListN.{length, take, drop, length-append, length-drop, take-append-drop}
 use lib.Seq.{take-take, take_at, take-append-le, drop_at, drop-append-le, length-take-le}
 use Rattle.sections.specs.Edit.{part, overwrite, fits, Edited}
 use Rattle.sections.specs.Le.{bytes}
-use Rattle.sections.proofs.EditLaws.{Edited-behind, Edited-fits, overwrite-length, overwrite-then}
+use Rattle.sections.proofs.EditLaws.{Edited-fits, overwrite-length, overwrite-then}
 use Rattle.sections.proofs.LeLaws.{length-bytes}
 use Rattle.vertices.specs.Runs.{run}
-use Rattle.vertices.proofs.RunLaws.{length_run}
 use Rattle.halls.specs.Checks.{triangles_of, has_three_vertices, require}
 use Rattle.halls.specs.Every.{every}
 use Rattle.halls.specs.List.{indices_body, indices_record, record_bytes}
@@ -22,6 +21,7 @@ use Rattle.halls.specs.Inner.Order.{passed, too_large, failing, verdict_of}
 use Rattle.halls.specs.Inner.NewIndices.{indices_verdict, indices_of, with_new_indices}
 use Rattle.halls.specs.Step.{rewritten}
 use Rattle.halls.specs.Inner.Walk.{units, size_lowest}
+use Rattle.halls.specs.Verdict.{Verdict}
 use Rattle.halls.specs.Verdict.{Sound}
 use Rattle.halls.proofs.format.BodyLaws.{indices_body-length}
 use Rattle.halls.proofs.edit.RewrittenLaws.{rewritten-length, rewritten-over}
@@ -70,19 +70,6 @@ record_is xs = ap (λ (n : ℕ). ((bytes 4 n ++ bytes 2 5) ++ bytes 4 (length xs
 pub new-record-length : (xs : List ℕ) → length (indices_record (indices_of xs)) ≡ 10 + 4 * length xs
 unfolding indices_record
 new-record-length xs = Record-length 5 (indices_body (indices_of xs)) ∙ omega (arith, indices_body-length (indices_of xs))
-
-module _ (s : List ℕ) (at : ℕ) (xs : List ℕ) (room : at + (10 + 4 * length xs) ≤ length s) where
-  pub Record-put : {c : ℕ} {t u v : List ℕ} {r : Bool} → c ≡ length xs → t ≡ overwrite s at (bytes 4 (4 + 4 * c) ++ bytes 2 5) → Edited (fits t (at + 6) 4) t (at + 6) (bytes 4 c) r u
-      → v ≡ overwrite u (at + 10) (run 4 xs) → v ≡ overwrite s at (indices_record (indices_of xs))
-  Record-put {c} {t} {u} {v} k e f g =
-      let head : List ℕ = bytes 4 (4 + 4 * c) ++ bytes 2 5 in
-      let six : length head ≡ 6 = simp (length-append, length-bytes) in
-      let four : length (bytes 4 c) ≡ 4 = length-bytes 4 c in
-      let ten : length (head ++ bytes 4 c) ≡ 10 = length-append head (bytes 4 c) ∙ omega arith in
-      let long : length (run 4 xs) ≡ length xs * 4 = length_run 4 xs in
-      let count : u ≡ overwrite s at (head ++ bytes 4 c) = Edited-behind s at head 6 4 e six four f (omega arith) in
-      g ∙ ap (λ (l : List ℕ). overwrite l (at + 10) (run 4 xs)) count ∙ overwrite-then s at 10 (head ++ bytes 4 c) (run 4 xs) ten (omega arith)
-      ∙ ap (λ (z : ℕ). overwrite s at (((bytes 4 (4 + 4 * z) ++ bytes 2 5) ++ bytes 4 z) ++ run 4 xs)) k ∙ ap (overwrite s at) (record_is xs)
 
 -- ---- all of it
 
@@ -167,3 +154,45 @@ unfolding indices_verdict indices_lowest_of
 lowest_judged xs count models parts a b c d =
     rw (c, a, b, d)
     (by_ranks (eqb (length xs % 3) 0) (leb 3 (length xs)) (every (λ (i : ℕ). ltb i count) xs) (every has_three_vertices (triangles_of xs)) (leb (1 + units (8 * models) + parts) 4194304))
+
+-- check by check
+
+scan_fails : (range three : Bool) (next : Verdict) → (cond range (cond three passed 27) 18 ≡ passed → ⊥) → verdict_of (cond range (cond three passed 27) 18) ≡ require 18 range (require 27 three next)
+scan_fails true true next h = absurd (h refl)
+scan_fails true false next h = refl
+scan_fails false three next h = refl
+
+scan_passes : (range three : Bool) → cond range (cond three passed 27) 18 ≡ passed → (range ≡ true) × (three ≡ true)
+scan_passes true true e = (refl, refl)
+scan_passes true false e = absurd (omega (arith, e))
+scan_passes false three e = absurd (omega (arith, e))
+
+module _ (xs : List ℕ) (count models parts : ℕ) where
+  pub lowest_uneven : (length xs % 3 ≡ 0 → ⊥) → verdict_of 17 ≡ indices_verdict xs count models parts
+  unfolding indices_verdict
+  lowest_uneven h = rw (ne_eqb (length xs % 3) 0 h)
+
+  module _ (even : length xs % 3 ≡ 0) where
+    pub lowest_few : length xs < 3 → verdict_of 17 ≡ indices_verdict xs count models parts
+    unfolding indices_verdict
+    lowest_few h = rw (eq-eqb (length xs % 3) 0 even, lt-leb 3 (length xs) h)
+
+    module _ (some : 3 ≤ length xs) {t : ℕ} (e : t ≡ indices_lowest_of count xs) where
+      pub lowest_scanned : (t ≡ passed → ⊥) → verdict_of t ≡ indices_verdict xs count models parts
+      unfolding indices_verdict indices_lowest_of
+      lowest_scanned h =
+          rw (eq-eqb (length xs % 3) 0 even, le-leb 3 (length xs) some)
+          (ap verdict_of e ∙ scan_fails (every (λ (i : ℕ). ltb i count) xs) (every has_three_vertices (triangles_of xs)) _ (λ z. h (e ∙ z)))
+
+      module _ (z : t ≡ passed) where
+        pub lowest_long : 4194304 < 1 + units (8 * models) + parts → verdict_of too_large ≡ indices_verdict xs count models parts
+        unfolding indices_verdict indices_lowest_of
+        lowest_long h =
+            let pass = scan_passes (every (λ (i : ℕ). ltb i count) xs) (every has_three_vertices (triangles_of xs)) (sym e ∙ z) in
+            rw (eq-eqb (length xs % 3) 0 even, le-leb 3 (length xs) some, pass.0, pass.1, lt-leb (1 + units (8 * models) + parts) 4194304 h)
+
+        pub lowest-none : 1 + units (8 * models) + parts ≤ 4194304 → verdict_of passed ≡ indices_verdict xs count models parts
+        unfolding indices_verdict indices_lowest_of
+        lowest-none h =
+            let pass = scan_passes (every (λ (i : ℕ). ltb i count) xs) (every has_three_vertices (triangles_of xs)) (sym e ∙ z) in
+            rw (eq-eqb (length xs % 3) 0 even, le-leb 3 (length xs) some, pass.0, pass.1, le-leb (1 + units (8 * models) + parts) 4194304 h)

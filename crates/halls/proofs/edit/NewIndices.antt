@@ -20,7 +20,6 @@ use Rattle.halls.specs.Hall.{FullGeometry, FullModel, Hall, hall_bytes}
 use Rattle.halls.specs.ImageSize.{geometry_size, model_size, image_size}
 use Rattle.halls.specs.List.{indices_record}
 use Rattle.halls.specs.Inner.NewIndices.{indices_verdict, indices_of, with_new_indices}
-use Rattle.halls.specs.Places.{geometry_place}
 use Rattle.halls.specs.Reading.{read}
 use Rattle.halls.specs.State.{Geometry, vertex_count, full_geometry, full_model, hall_of}
 use Rattle.halls.specs.Step.{state_in, rewritten, Stepped}
@@ -28,25 +27,19 @@ use Rattle.halls.specs.Inner.Walk.{Counted, units}
 use Rattle.halls.specs.Inner.Order.{passed, check_of, verdict_of}
 use Rattle.std.specs.Prelude.{Ok, Err}
 use Rattle.halls.specs.Verdict.{Sound}
-use Rattle.std.specs.Prelude.{None}
 use Rattle.halls.specs.declared.check.pass.Summary.{Summary}
 use Rattle.halls.proofs.edit.ChangedLaws.{changed_hall, bytes_before, bytes_behind, bytes-changed, image-changed, verdict-changed}
 use Rattle.halls.proofs.check.LimitLaws.{sixteenth}
 use Rattle.halls.proofs.edit.IndicesWritten.{record_is, new-record-length}
 use Rattle.halls.proofs.edit.SoundEdits.{sum-item}
 use Rattle.halls.proofs.SoundLaws.{verdict-sound}
-use Rattle.halls.proofs.check.SpotLaws.{Spot, not_there, overwrite-inside, Spot-hall, Spot-passes, content_head, head_start, head_rest, head-counts, content-parts, content_head-length, field-there, Spot-bytes, Spot-sound, Spot-InWidth, Spot-count, Spot-stride, new-hall}
-use Rattle.halls.proofs.edit.StepLaws.{hall_in, Old, stays_barred, stays-judged, stays_long, becomes-new}
+use Rattle.halls.proofs.check.SpotLaws.{Spot, overwrite-inside, Spot-hall, Spot-passes, content_head, head_start, head_rest, head-counts, content-parts, content_head-length, field-there, Spot-bytes, Spot-sound, Spot-InWidth, Spot-count, Spot-stride, new-hall}
+use Rattle.halls.proofs.edit.StepLaws.{hall_in, stays-judged, stays_long, becomes-new}
 
 -- check 17 of new indices, as the code asks it
 thirds : (k : ℕ) (t : Bool) → eqb (k % 3) 0 ≡ t → eqb k (3 * (k / 3)) ≡ t
 thirds k true e = let z : k % 3 ≡ 0 = eqb-true (k % 3) 0 e in eq-eqb k (3 * (k / 3)) (omega arith)
 thirds k false e = ne_eqb k (3 * (k / 3)) (λ p. let z : k % 3 ≡ 0 = omega arith in let y = sym (eq-eqb (k % 3) 0 z) ∙ e in absurd (subst T y tt))
-
-pub replaced-nowhere : (b : List ℕ) (n m g : ℕ) (xs : List ℕ) → Old b n → None ≡ (geometry_place (hall_in b n) m g)
-    → Stepped (replace_indices m g xs) b n (Err (record { check = 21; needed = 0 })) b
-unfolding proposed
-replaced-nowhere b n m g xs o e = stays_barred (replace_indices m g xs) b n o 21 (not_there o m g _ e)
 
 module _ {b : List ℕ} {n m g at : ℕ} (w : Spot b n m g at) (xs : List ℕ) where
   abbrev h : Hall

@@ -1,6 +1,6 @@
 -- A geometry taken out of a hall: where its records and its mapping entry stand, and what the call comes to.
 use Rattle.std.specs.Prelude.{Option, None, Some}
-use mathlib.Core.Path.{◌≡◌, refl, sym, ap, ◌∙◌, subst}
+use mathlib.Core.Path.{◌≡◌, refl, sym, ap, ◌∙◌}
 use mathlib.Core.Bool.{Bool, ◌&&◌}
 use mathlib.Core.List.{List, ◌∷◌, ◌++◌, map, map-append, append_assoc}
 use Prim.Native.Nat.{ℕ, suc, ◌+◌, ◌*◌, ◌-◌, ◌^◌, ◌≤◌, ◌<◌}
@@ -23,17 +23,17 @@ use Rattle.halls.specs.Places.{item, places_from, geometry_place}
 use Rattle.halls.specs.Reading.{refused, read}
 use Rattle.halls.specs.State.{Geometry, geometry_state, model_state, hall_of}
 use Rattle.halls.specs.Step.{state_in, rewritten, Stepped}
-use Rattle.std.specs.Prelude.{Result, Ok, Err}
-use Rattle.halls.specs.declared.answer.Refusal.{Refusal}
+use Rattle.std.specs.Prelude.{Ok}
 use Rattle.halls.specs.Verdict.{Sound}
 use Rattle.halls.specs.declared.check.find.GeometryPlace.{GeometryPlace}
 use Rattle.halls.proofs.format.BodyLaws.{indices_body-length}
 use Rattle.halls.proofs.check.CutLaws.{number-between, over-between, moved-part, cut_others, cut_parts, geometries_bytes, record_front, whole_parts, less-parts}
+use Rattle.halls.proofs.check.SpotLaws.{not_there}
 use Rattle.halls.proofs.edit.RewrittenLaws.{rewritten-others}
 use Rattle.halls.proofs.edit.SoundEdits.{split-item, item-within, item-map, map-without, each_item, each-without, sum-without, State-item, hall-replaced, sound-replaced}
 use Rattle.halls.proofs.SoundLaws.{SoundGeometry, SoundModel, verdict-sound, sound_models}
 use Rattle.halls.proofs.StateLaws.{model_of-state}
-use Rattle.halls.proofs.edit.StepLaws.{hall_in, Old, stays_barred, becomes-new}
+use Rattle.halls.proofs.edit.StepLaws.{hall_in, Old, becomes-new}
 use Rattle.halls.proofs.read.ViewLaws.{geometry_record-length, declaration_record-length, vertices_record-length, indices_record-length}
 
 -- ---- what the finder says
@@ -70,26 +70,9 @@ module _ (h : Hall) (m g : ℕ) where
 
 -- ---- no such geometry
 
-module _ (b : List ℕ) (n : ℕ) (o : Old b n) (m g : ℕ) where
-  barred : (geometry_place (hall_in b n) m g) ≡ None → proposed (remove_geometry m g) (state_in b n) ≡ refused 21
-  unfolding geometry_place proposed
-  barred e = by (item m (hall_in b n)) refl
-    where
-      by-geometry : (x : FullModel) → item m (hall_in b n) ≡ Some x → (i : Option FullGeometry) → item g x.geometries ≡ i → proposed (remove_geometry m g) (state_in b n) ≡ refused 21
-      by-geometry x q None r =
-          let there : item m (state_in b n) ≡ Some (model_state x) = State-item m (hall_in b n) ∙ rw q in
-          let lacks : item g (map geometry_state x.geometries) ≡ None = item-map geometry_state g x.geometries ∙ rw r in
-          rw (there, lacks)
-      by-geometry x q (Some y) r =
-          let clash : Some (places_from (length (hall_bytes (take m (hall_in b n)))) (length (hall_bytes (take m (hall_in b n))) + (12 + 2 * length x.mapping) + length (geometries_bytes (take g x.geometries))) y) ≡ None = rw (q, r) at e in
-          let z : ◌≡◌ {A = ℕ} 0 1 = cc in absurd (omega arith)
-
-      by : (i : Option FullModel) → item m (hall_in b n) ≡ i → proposed (remove_geometry m g) (state_in b n) ≡ refused 21
-      by None q = let lacks : item m (state_in b n) ≡ None = State-item m (hall_in b n) ∙ rw q in rw lacks
-      by (Some x) q = by-geometry x q (item g x.geometries) refl
-
-  pub geometry-lacks : (r : Result ℕ Refusal) → (geometry_place (hall_in b n) m g) ≡ None → r ≡ Err (record { check = 21; needed = 0 }) → Stepped (remove_geometry m g) b n r b
-  geometry-lacks r e f = subst (λ (x : Result ℕ Refusal). Stepped (remove_geometry m g) b n x b) (sym f) (stays_barred (remove_geometry m g) b n o 21 (barred e))
+pub barred : (b : List ℕ) (n : ℕ) → Old b n → (m g : ℕ) → geometry_place (hall_in b n) m g ≡ None → proposed (remove_geometry m g) (state_in b n) ≡ refused 21
+unfolding proposed
+barred b n o m g e = not_there o m g _ (sym e)
 
 -- ---- one that is there
 

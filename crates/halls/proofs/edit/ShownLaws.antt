@@ -1,8 +1,8 @@
 -- The geometry that a view shows: it is the one that is read, and its checks are those of its numbers and of its indices as they lie.
 use Rattle.std.specs.Prelude.{Option, None, Some, option_map}
-use mathlib.Core.Path.{◌≡◌, refl, sym, ap}
+use mathlib.Core.Path.{◌≡◌, refl, sym, ap, ◌∙◌}
 use mathlib.Core.List.{List}
-use Prim.Native.Nat.{ℕ, ◌+◌, ◌*◌, ◌/◌}
+use Prim.Native.Nat.{ℕ, ◌+◌, ◌*◌}
 use native.Mathlib.Omega.{arith}
 use Rattle.sections.specs.Address.{Sections, resolved}
 use Rattle.vertices.specs.declared.buffer.VertexBuffer.{VertexBuffer}
@@ -11,7 +11,11 @@ use Rattle.halls.specs.List.{Indices, Geometry}
 use Rattle.halls.specs.Reading.{content_at, vertices_of, indices_of, geometry_with, geometry_of}
 use Rattle.halls.specs.Inner.Taking.{indices_shown, geometry_shown, as_halls, lowest_in, content_in, held_in, geometry_taken, content_seen, held_seen, full_shown}
 use Rattle.halls.specs.Inner.View.{index_view_in, bytes_seen, view_with, geometry_view, BufferHeld}
-use Rattle.halls.specs.declared.edit.judge_read.Taken.{Taken}
+use Rattle.halls.specs.Hall.{FullGeometry}
+use Rattle.halls.specs.Inner.Judging.{HeadJudged, head_of, indices_lowest_of, lowest_of}
+use Rattle.halls.specs.Inner.Order.{passed}
+use Rattle.halls.specs.Inner.Walk.{geometry_units}
+use Rattle.halls.proofs.check.JudgingLaws.{lowest_vertices, lowest_scanned}
 use Rattle.halls.specs.declared.read.view.GeometryView.{GeometryView}
 use Rattle.halls.specs.declared.read.view.IndexView.{IndexView}
 use Rattle.halls.proofs.read.HeldLaws.{items_length_lem}
@@ -40,14 +44,13 @@ held-is : (s : Sections) (f : Option IndexView) → held_in (indices_shown s f) 
 held-is s None = refl
 held-is s (Some v) = items_length_lem v (bytes_seen s v)
 
-pub view-taken : (s : Sections) (v : GeometryView) {lowest content held : ℕ} → BufferHeld s v.buffer → lowest ≡ lowest_in (as_halls (geometry_shown s v)) → content ≡ content_seen v.buffer
-    → held ≡ held_seen v.indices
-    → record { lowest = lowest; models = 0; geometries = 1; units = 25 + (content + 15) / 16 + (held + 7) / 8; «length» = 65 + content + 4 * held } ≡ geometry_taken (geometry_shown s v)
+pub view-taken : (s : Sections) (v : GeometryView) {lowest content held parts long : ℕ} → BufferHeld s v.buffer → lowest ≡ lowest_in (as_halls (geometry_shown s v)) → content ≡ content_seen v.buffer
+    → held ≡ held_seen v.indices → parts ≡ geometry_units content held → long ≡ 65 + content + 4 * held
+    → record { lowest = lowest; summary = record { models = 0; geometries = 1; units = parts }; «length» = long } ≡ geometry_taken (geometry_shown s v)
 unfolding geometry_taken geometry_shown
-view-taken s v {lowest} {content} {held} h e p q =
-    let taken : ℕ → ℕ → ℕ → Taken = λ a b n. record { lowest = a; models = 0; geometries = 1; units = b; «length» = n } in
-    let units-are : 25 + (content + 15) / 16 + (held + 7) / 8 ≡ (geometry_taken (geometry_shown s v)).units = omega (arith, content-is s v.buffer h, held-is s v.indices) in
-    let length-is : 65 + content + 4 * held ≡ (geometry_taken (geometry_shown s v)).«length» = omega (arith, content-is s v.buffer h, held-is s v.indices) in
+view-taken s v {lowest} {content} {held} {parts} {long} h e p q u l =
+    let units-are : parts ≡ (geometry_taken (geometry_shown s v)).summary.units = omega (arith, u, p, q, content-is s v.buffer h, held-is s v.indices) in
+    let length-is : long ≡ (geometry_taken (geometry_shown s v)).«length» = omega (arith, l, p, q, content-is s v.buffer h, held-is s v.indices) in
     cc
 
 -- ---- its checks
@@ -63,3 +66,7 @@ lacks_indices s v b e f = rw (e, f)
 pub shown-full : (s : Sections) (v : GeometryView) (b : VertexBuffer) (i : Indices) → v.buffer ≡ Some b → indices_shown s v.indices ≡ Some i → as_halls (geometry_shown s v) ≡ Some (full_shown v b (content_at s b) i)
 unfolding geometry_shown vertices_of
 shown-full s v b i e f = rw (e, f)
+
+-- where none of checks 14 to 17 fails, its vertex count is its buffer's, so that checks 18 and 27 by that count decide
+pub full_scanned : (g : FullGeometry) {r : ℕ} → HeadJudged (head_of g) r → r ≡ passed → {t : ℕ} → t ≡ indices_lowest_of g.vertex_count g.indices.items → t ≡ lowest_of g
+full_scanned g j z q = lowest_scanned g refl j z (q ∙ ap (λ (n : ℕ). indices_lowest_of n g.indices.items) (lowest_vertices g refl j z))

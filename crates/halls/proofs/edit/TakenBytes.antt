@@ -5,6 +5,9 @@ use mathlib.Core.List.{List, [], ◌∷◌, ◌++◌, map}
 use Prim.Native.Nat.{ℕ, ◌+◌, ◌-◌, ◌*◌, ◌≤◌}
 use native.Mathlib.Omega.{arith}
 use lib.ListN.{length, length-append}
+use Rattle.std.specs.Option.{is_some}
+use mathlib.Core.Bool.{true}
+use Rattle.sections.specs.Address.{Sections, resolved}
 use Rattle.sections.specs.Edit.{overwrite}
 use Rattle.sections.specs.Le.{bytes}
 use Rattle.sections.proofs.EditLaws.{overwrite-none, overwrite-ahead, overwrite-behind}
@@ -13,8 +16,12 @@ use Rattle.vertices.specs.Runs.{run}
 use Rattle.halls.specs.Calls.{taken_geometry, taken_model, both, all_of}
 use Rattle.halls.specs.Hall.{FullGeometry, FullModel, Hall, listed_geometry, listed_model, hall_bytes}
 use Rattle.halls.specs.List.{Vertices, Indices, Geometry, Model, optional, each, record_bytes, model_numbers, model_record, write_geometry, write_geometries, write_model}
+use Rattle.halls.specs.Blocks.{geometry_block, model_block}
+use Rattle.halls.specs.Reading.{geometry_with, geometry_of}
 use Rattle.halls.specs.Inner.Small.{Wrote}
+use Rattle.halls.specs.Inner.View.{geometry_in, model_of, model_in}
 use Rattle.halls.specs.Inner.Taking.{as_halls, geometry_bytes, model_bytes, shader_bytes}
+use Rattle.halls.proofs.read.EachLaws.{each-one}
 use Rattle.halls.proofs.read.ViewLaws.{Record-length, geometry_record-length, declaration_record-length, vertices_record-length, indices_record-length}
 
 -- nothing was written
@@ -38,6 +45,16 @@ full-bytes g f e = ap (optional (λ (x : FullGeometry). write_geometry (listed_g
 pub lacking : (g : Geometry) → as_halls g ≡ None → geometry_bytes g ≡ []
 unfolding geometry_bytes
 lacking g e = ap (optional (λ (x : FullGeometry). write_geometry (listed_geometry x))) e
+
+-- ---- behind a pointer
+
+pub shader_in : (s : Sections) (shader : ℕ) (o : Option (List ℕ)) → is_some o ≡ true → each shader_bytes (geometry_in s shader o) ≡ bytes 2 shader
+unfolding geometry_of geometry_with
+shader_in s shader None e = let z : ◌≡◌ {A = ℕ} 0 1 = cc in absurd (omega arith)
+shader_in s shader (Some raw) e = each-one shader_bytes (geometry_of s shader (geometry_block raw))
+
+pub model_bytes-in : (s : Sections) (pointer : ℕ) (raw : List ℕ) → resolved s pointer 0x30 ≡ Some raw → model_bytes (model_of s (model_block raw)) ≡ each model_bytes (model_in s (resolved s pointer 0x30))
+model_bytes-in s pointer raw e = sym (each-one model_bytes (model_of s (model_block raw))) ∙ ap (λ (o : Option (List ℕ)). each model_bytes (model_in s o)) (sym e)
 
 -- ---- a model: the mapping, its numbers before it, and the geometries behind
 

@@ -66,9 +66,9 @@ models-exact s ps = models-each s ExactGeometry (λ shader pointer b e. geometry
 
 record GeometryTakenAs (g : FullGeometry) (t : Taken) : Type 0 where
   lowest : t.lowest ≡ lowest_of g
-  models : t.models ≡ 0
-  geometries : t.geometries ≡ 1
-  image : 16 * t.units ≡ geometry_size g
+  models : t.summary.models ≡ 0
+  geometries : t.summary.geometries ≡ 1
+  image : 16 * t.summary.units ≡ geometry_size g
   long : t.«length» ≡ length (write_geometry (listed_geometry g))
   exact : vertex_bytes_exact g ≡ true
 
@@ -104,9 +104,9 @@ GeometryJudged_lem g x = by_parts g.vertices g.indices refl refl
 record GeometriesTakenAs (gs : List FullGeometry) (t : Taken) : Type 0 where
   lowest : t.lowest ≡ lowest_of_all gs
   above : 11 ≤ t.lowest
-  models : t.models ≡ 0
-  geometries : t.geometries ≡ length gs
-  image : 16 * t.units ≡ sum_of geometry_size gs
+  models : t.summary.models ≡ 0
+  geometries : t.summary.geometries ≡ length gs
+  image : 16 * t.summary.units ≡ sum_of geometry_size gs
   long : t.«length» ≡ length (write_geometries (map listed_geometry gs))
   exact : every vertex_bytes_exact gs ≡ true
 
@@ -144,9 +144,9 @@ GeometriesJudged_lem (g ∷ gs) x =
 record ModelsTakenAs (h : Hall) (t : Taken) : Type 0 where
   lowest : t.lowest ≡ lowest_of_models h
   above : 11 ≤ t.lowest
-  models : t.models ≡ length h
-  geometries : t.geometries ≡ geometry_count h
-  image : 16 * t.units ≡ sum_of model_size h
+  models : t.summary.models ≡ length h
+  geometries : t.summary.geometries ≡ geometry_count h
+  image : 16 * t.summary.units ≡ sum_of model_size h
   long : t.«length» ≡ length (hall_bytes h)
   exact : every_geometry vertex_bytes_exact h ≡ true
 
@@ -169,7 +169,7 @@ model-long m = rw (length-append, Record-length 1 (model_body (listed_model m)),
 lower_three : (a b : ℕ) → min (min passed a) b ≡ min passed (min a b)
 lower_three a b = omega arith
 
-models_more : (m : Model) (n : ℕ) (p : Option (List FullGeometry)) (h : Option Hall) (t u : Taken) → t.geometries ≡ n → GeometriesJudged p t → ModelsJudged h u
+models_more : (m : Model) (n : ℕ) (p : Option (List FullGeometry)) (h : Option Hall) (t u : Taken) → t.summary.geometries ≡ n → GeometriesJudged p t → ModelsJudged h u
     → ModelsJudged (both (λ y ys. y ∷ ys) (option_map (halls_model m) p) h) (together (together (record_taken n) t) u)
 unfolding lowest_of_models sum_of each every geometry_count hall_bytes mapping_matches model_size
 models_more m n None None t u e a b = omega arith
@@ -198,12 +198,12 @@ ModelsJudged_lem (m ∷ ms) x =
 -- ---- the whole
 
 abbrev pub lowest_taken : Taken → ℕ
-lowest_taken t = min t.lowest (limits_lowest t.models t.geometries t.units)
+lowest_taken t = min t.lowest (limits_lowest t.summary.models t.summary.geometries t.summary.units)
 
 -- check 11, or the verdict on the hall, its length and its geometries
 abbrev pub Judged : Option Hall → Taken → Type 0
 Judged None t = lowest_taken t ≡ 11
-Judged (Some h) t = (verdict_of (lowest_taken t) ≡ verdict h) × (t.«length» ≡ length (hall_bytes h)) × (t.geometries ≡ geometry_count h)
+Judged (Some h) t = (verdict_of (lowest_taken t) ≡ verdict h) × (t.«length» ≡ length (hall_bytes h)) × (t.summary.geometries ≡ geometry_count h)
 
 limits_above : (models geometries parts : ℕ) → 13 ≤ limits_lowest models geometries parts
 unfolding limits_lowest
@@ -211,9 +211,9 @@ limits_above models geometries parts = (limits_low (leb models 256 && leb geomet
 
 by-hall : (o : Option Hall) (t : Taken) → ModelsJudged o t → Judged o t
 unfolding image_size
-by-hall None t a = omega (arith, a, limits_above t.models t.geometries t.units)
+by-hall None t a = omega (arith, a, limits_above t.summary.models t.summary.geometries t.summary.units)
 by-hall (Some h) t a =
-    let limits = limits_of h t.models t.geometries t.units a.models a.geometries (omega (arith, a.image, a.models)) in
+    let limits = limits_of h t.summary.models t.summary.geometries t.summary.units a.models a.geometries (omega (arith, a.image, a.models)) in
     (rw (a.lowest, limits) (verdict-lowest h a.exact), a.long, a.geometries)
 
 pub taken-verdict : (s : Sections) (ps : List ℕ) (o : Option Hall) → all_of taken_model (models_at s ps) ≡ o → Judged o (all_taken model_taken (models_at s ps))

@@ -1,6 +1,7 @@
--- A loop that adds up some items: what they came to so far, and what is left.
+-- Sums of what some items come to, and a fold that adds them up: what they came to so far, and what is left.
 use mathlib.Core.Path.{◌≡◌, refl, sym, ap, subst, ◌∙◌}
-use mathlib.Core.List.{List, [], ◌∷◌}
+use mathlib.Core.List.{List, [], ◌∷◌, ◌++◌}
+use Rattle.std.specs.Iterator.{Yields, YieldsFirst}
 use Prim.Native.Nat.{ℕ, ◌+◌, ◌*◌, ◌/◌, ◌≤◌}
 use native.Mathlib.Omega.{arith}
 use Rattle.halls.specs.Inner.Taking.{nothing_taken, together, all_taken, record_taken, Fitting}
@@ -10,7 +11,7 @@ use Rattle.halls.specs.Inner.Order.{passed}
 -- ---- sums
 
 abbrev taken : ℕ → ℕ → ℕ → ℕ → ℕ → Taken
-taken lowest models geometries parts long = record { lowest = lowest; models = models; geometries = geometries; units = parts; «length» = long }
+taken lowest models geometries parts long = record { lowest = lowest; summary = record { models = models; geometries = geometries; units = parts }; «length» = long }
 
 same_taken : {a b c d e a' b' c' d' e' : ℕ} → a ≡ a' → b ≡ b' → c ≡ c' → d ≡ d' → e ≡ e' → taken a b c d e ≡ taken a' b' c' d' e'
 same_taken p q r s t = cc
@@ -42,41 +43,40 @@ fits-first a b h = record { models = omega (arith, h.models); geometries = omega
 pub fits-second : (a b : Taken) → Fitting (together a b) → Fitting b
 fits-second a b h = record { models = omega (arith, h.models); geometries = omega (arith, h.geometries); image = omega (arith, h.image); long = omega (arith, h.long) }
 
--- ---- the loop
+-- ---- a fold that adds up the items of an iterator
 
-pub record TakingItems {A : Type 0} (f : A → Taken) (all left : List A) (total : Taken) : Type 0 where
-  pub whole : together total (all_taken f left) ≡ all_taken f all
-  pub low : total.lowest ≤ passed
+-- those that came, and what is left behind them
+pub yielded : {A : Type 0} (xs s t : List A) → Yields (YieldsFirst (λ (rest : List A). rest)) s xs t → s ≡ xs ++ t
+yielded [] s t y = y
+yielded (x ∷ xs) s t y = y.1 ∙ ap (λ zs. x ∷ zs) (yielded xs y.0 t y.2)
 
-pub taking-start : {A : Type 0} (f : A → Taken) (all : List A) {total : Taken} → total ≡ nothing_taken → TakingItems f all all total
-taking-start f all e = record {
-  whole = ap (λ (t : Taken). together t (all_taken f all)) e ∙ nothing-before (all_taken f all) (all-low f all);
-  low = rw e (omega arith);
-}
-
-module _ {A : Type 0} {f : A → Taken} {all left : List A} {total : Taken} (w : TakingItems f all left total) where
-  -- nothing is left
-  pub taking-end : left ≡ [] → total ≡ all_taken f all
+module _ {A : Type 0} (f : A → Taken) where
+  all_append : (xs ys : List A) → all_taken f (xs ++ ys) ≡ together (all_taken f xs) (all_taken f ys)
   unfolding all_taken
-  taking-end e = sym (nothing-behind total w.low) ∙ ap (λ (xs : List A). together total (all_taken f xs)) (sym e) ∙ w.whole
+  all_append [] ys = sym (nothing-before (all_taken f ys) (all-low f ys))
+  all_append (x ∷ xs) ys = ap (together (f x)) (all_append xs ys) ∙ sym (together-assoc (f x) (all_taken f xs) (all_taken f ys))
 
-  -- the next item
-  module _ {x : A} {others : List A} (step : left ≡ x ∷ others) where
-    next-whole : together (together total (f x)) (all_taken f others) ≡ all_taken f all
+  pub taking-start : {t : Taken} → t ≡ nothing_taken → t ≡ all_taken f []
+  unfolding all_taken
+  taking-start e = e
+
+  -- one item more
+  pub taking_turn : (xs : List A) (x : A) {t r : Taken} → t ≡ all_taken f xs → r ≡ together t (f x) → r ≡ all_taken f (xs ++ (x ∷ []))
+  unfolding all_taken
+  taking_turn xs x e q =
+      q ∙ ap (λ (z : Taken). together z (f x)) e ∙ sym (nothing-behind (together (all_taken f xs) (f x)) (omega (arith, all-low f xs)))
+      ∙ together-assoc (all_taken f xs) (f x) nothing_taken ∙ sym (all_append xs (x ∷ []))
+
+  -- of items whose sum fits
+  module _ (all xs : List A) (x : A) (others : List A) (fits : Fitting (all_taken f all)) (e : all ≡ xs ++ (x ∷ others)) where
+    fits-so_far : Fitting (together (all_taken f xs) (f x))
     unfolding all_taken
-    next-whole = together-assoc total (f x) (all_taken f others) ∙ ap (λ (xs : List A). together total (all_taken f xs)) (sym step) ∙ w.whole
+    fits-so_far =
+        fits-first (together (all_taken f xs) (f x)) (all_taken f others)
+        (subst Fitting (ap (all_taken f) e ∙ all_append xs (x ∷ others) ∙ sym (together-assoc (all_taken f xs) (f x) (all_taken f others))) fits)
 
-    fits-so_far : Fitting (all_taken f all) → Fitting (together total (f x))
-    fits-so_far fits = fits-first (together total (f x)) (all_taken f others) (subst Fitting (sym next-whole) fits)
+    pub taking-part : Fitting (f x)
+    taking-part = fits-second (all_taken f xs) (f x) fits-so_far
 
-    pub taking-part : Fitting (all_taken f all) → Fitting (f x)
-    taking-part fits = fits-second total (f x) (fits-so_far fits)
-
-    module _ {r : Taken} (e : r ≡ f x) where
-      pub taking_room : Fitting (all_taken f all) → Fitting (together total r)
-      taking_room fits = rw e (fits-so_far fits)
-
-      pub taking_turn : {t : Taken} → t ≡ together total r → TakingItems f all others t
-      taking_turn q =
-          let is = q ∙ ap (together total) e in
-          record { whole = ap (λ (t : Taken). together t (all_taken f others)) is ∙ next-whole; low = rw is (omega (arith, w.low)) }
+    pub taking_room : {t r : Taken} → t ≡ all_taken f xs → r ≡ f x → Fitting (together t r)
+    taking_room p q = rw (p, q) fits-so_far

@@ -1,11 +1,17 @@
 -- One geometry and one model as they are read: what they come to.
 use Rattle.std.specs.Prelude.{Option, None, Some}
-use mathlib.Core.Path.{◌≡◌, refl, ap, ◌∙◌}
+use mathlib.Core.Path.{◌≡◌, refl, sym, ap, ◌∙◌}
 use mathlib.Core.Bool.{Bool, true, false, cond}
 use mathlib.Core.List.{List, [], ◌∷◌}
 use Prim.Native.Nat.{ℕ, ◌≤◌}
 use native.Mathlib.Omega.{arith}
 use lib.ListN.{length}
+use Rattle.sections.specs.Address.{Sections}
+use Rattle.halls.specs.Blocks.{ModelBlock}
+use Rattle.halls.specs.Inner.Measure.{whole_numbers}
+use Rattle.halls.specs.Inner.View.{ListsOf, geometries_at, model_of}
+use Rattle.halls.specs.Reading.{or_empty}
+use Rattle.halls.proofs.read.StoredLaws.{model_geometries}
 use Rattle.halls.specs.Checks.{strides_agree, components_inside, vertex_counts_agree, index_counts_agree, indices_in_range, triangles_distinct}
 use Rattle.halls.specs.Hall.{FullGeometry}
 use Rattle.halls.specs.Inner.Judging.{lowest_of}
@@ -37,7 +43,7 @@ in_low (Some g) = (of_bounds g).1
 -- ---- one model
 
 -- as many as were read
-pub geometries-counted : (gs : List Geometry) → (all_taken geometry_taken gs).geometries ≡ length gs
+pub geometries-counted : (gs : List Geometry) → (all_taken geometry_taken gs).summary.geometries ≡ length gs
 unfolding all_taken geometry_taken
 geometries-counted [] = refl
 geometries-counted (g ∷ gs) = omega (arith, geometries-counted gs)
@@ -48,8 +54,17 @@ module _ (m : Model) where
   geometries-fit fits = fits-second (record_taken (length m.geometries)) (all_taken geometry_taken m.geometries) fits
 
   -- its record, and its geometries
-  pub model_taken_lem : {r : Taken} → r ≡ all_taken geometry_taken m.geometries → together (record_taken r.geometries) r ≡ model_taken m
+  pub model_taken_lem : {r : Taken} → r ≡ all_taken geometry_taken m.geometries → together (record_taken r.summary.geometries) r ≡ model_taken m
   unfolding model_taken
   model_taken_lem e =
-      ap (λ (x : Taken). together (record_taken x.geometries) x) e
+      ap (λ (x : Taken). together (record_taken x.summary.geometries) x) e
       ∙ ap (λ (n : ℕ). together (record_taken n) (all_taken geometry_taken m.geometries)) (geometries-counted m.geometries)
+
+-- the same, and the geometries by the bytes of its lists
+module _ (s : Sections) (b : ModelBlock) (pointers : Option (List ℕ)) (mapping : List ℕ) (l : ListsOf s b pointers mapping) where
+  abbrev geometries : List Geometry
+  geometries = geometries_at s (whole_numbers 2 mapping) (whole_numbers 8 (or_empty pointers))
+
+  by_lists : model_taken (model_of s b) ≡ together (record_taken (length geometries)) (all_taken geometry_taken geometries)
+  unfolding model_taken
+  by_lists = ap (λ (gs : List Geometry). together (record_taken (length gs)) (all_taken geometry_taken gs)) (sym (model_geometries s b pointers mapping l refl))

@@ -1,6 +1,6 @@
 -- The records that some bytes begin with: what a model or a geometry at the front says of them, and that nothing else is a hall's.
 use mathlib.Core.Path.{◌≡◌, refl, sym, ap, ◌∙◌, subst}
-use mathlib.Core.Bool.{Bool, true, false, cond, ◌&&◌}
+use mathlib.Core.Bool.{Bool, true, false, cond, ◌&&◌, and-false}
 use mathlib.Core.List.{List, [], ◌∷◌}
 use mathlib.Core.Logic.{◌⊎◌, ⊎_elim}
 use Prim.Native.Nat.{ℕ, ◌+◌, ◌*◌, ◌-◌, ◌/◌, ◌≤◌, ◌<◌}
@@ -8,7 +8,7 @@ use native.Mathlib.Nat.{add-zero, lt_of_not-le}
 use native.Mathlib.Decide.{dec_le}
 use native.Mathlib.Omega.{arith}
 use borrow.Author.Tests.{le-leb, eq-eqb, ne_eqb, eqb-true, eqb-false, leb-true}
-use lib.Dec.{T, eqb}
+use lib.Dec.{T, eqb, leb}
 use lib.ListN.{length, take, drop, length-drop}
 use lib.Seq.{drop-drop}
 use Rattle.std.specs.Prelude.{Option, Some, None}
@@ -53,6 +53,20 @@ RecordAt_lem s at kind n e =
 pub has_record_lem : (s : List ℕ) (at kind n : ℕ) → RecordAt s at kind n → has_record s at kind n ≡ true
 unfolding has_record
 has_record_lem s at kind n r = rw (le-leb (at + (6 + n)) (length s) r.fits, eq-eqb (field 4 s at) n r.length-is, eq-eqb (field 2 s (at + 4)) kind r.kind-is)
+
+-- as the code tests it
+module _ (s : List ℕ) (at kind n : ℕ) where
+  pub Record-outside : leb (at + (6 + n)) (length s) ≡ false → false ≡ has_record s at kind n
+  unfolding has_record
+  Record-outside e = rw e
+
+  pub Record-differs : {found : ℕ} → found ≡ field 4 s at → (found ≡ n → ⊥) → false ≡ has_record s at kind n
+  unfolding has_record
+  Record-differs e f = rw (ne_eqb (field 4 s at) n (λ h. f (e ∙ h))) (sym (and-false (fits s at (6 + n))))
+
+  pub Record-kind : {found : ℕ} → leb (at + (6 + n)) (length s) ≡ true → field 4 s at ≡ n → found ≡ field 2 s (at + 4) → eqb found kind ≡ has_record s at kind n
+  unfolding has_record
+  Record-kind l e f = rw (l, eq-eqb (field 4 s at) n e, f)
 
 rearranged : (w f o x e : Bool) → (w && ((f && o) && (x && e))) ≡ (f && (x && (w && (o && e))))
 rearranged true true o true e = refl

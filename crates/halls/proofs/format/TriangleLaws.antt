@@ -8,7 +8,7 @@ use native.Mathlib.Omega.{arith}
 use borrow.Author.Tests.{ne_eqb}
 use lib.Dec.{eqb}
 use lib.ListN.{length, take, drop, length-append}
-use Rattle.sections.specs.Le.{bytes}
+use Rattle.sections.specs.Le.{bytes, field}
 use Rattle.sections.proofs.LeLaws.{length-bytes}
 use Rattle.vertices.specs.Declaration.{declaration_bytes}
 use Rattle.vertices.specs.Runs.{run}
@@ -18,10 +18,10 @@ use Rattle.halls.specs.Every.{Each}
 use Rattle.halls.specs.List.{Vertices, Indices, Geometry, Model, each, record_bytes, optional, model_record, geometry_record, declaration_record, vertices_record, indices_record, write_geometry, write_geometries, write_model, write}
 use Rattle.halls.specs.Inner.Spans.{spans_at}
 use Rattle.halls.specs.declared.format.walk.RecordSpan.{RecordSpan}
-use Rattle.halls.specs.Records.{Record, records}
+use Rattle.halls.specs.Records.{Record, body_length, records}
 use Rattle.halls.specs.Triangles.{held_by, triangles_of, triangles_of_all, triangles, stored_count, held_count, added, awaits, triangles_from, triangles_in, Short, FittingGeometry, Fitting}
 use Rattle.halls.proofs.format.RecordLaws.{field-behind, records-stop, records-written}
-use Rattle.halls.proofs.format.SpanLaws.{split-none, records-one, First, first_span}
+use Rattle.halls.proofs.format.SpanLaws.{split-none, records-none, records-one, First, first_span}
 use Rattle.halls.proofs.read.ViewLaws.{Record-length, declaration_record-length}
 
 -- ---- a record, by its kind
@@ -80,12 +80,19 @@ Counting-start s e = record { at = 0; low = omega arith; rest-is = sym e; sum = 
 
 module _ {s : List ℕ} {rest : List RecordSpan} {awaited : Bool} {total : ℕ} (w : Counting s rest awaited total) where
   -- no record is left
-  pub Counting-end : rest ≡ [] → total ≡ min (triangles_in (records s)) greatest
+  counted_all : records (drop w.at s) ≡ [] → total ≡ min (triangles_in (records s)) greatest
   unfolding triangles_from
-  Counting-end e =
-      let none : records (drop w.at s) ≡ [] = split-none w.at (records (drop w.at s)) (w.rest-is ∙ e) in
-      let whole : triangles_in (records s) ≡ w.sum = omega (arith, rw none at w.whole) in
-      rw whole w.total-is
+  counted_all none = let whole : triangles_in (records s) ≡ w.sum = omega (arith, rw none at w.whole) in rw whole w.total-is
+
+  pub Counting-end : rest ≡ [] → total ≡ min (triangles_in (records s)) greatest
+  Counting-end e = counted_all (split-none w.at (records (drop w.at s)) (w.rest-is ∙ e))
+
+  Counted-all : length (drop w.at s) < 6 + body_length (drop w.at s) → total ≡ min (triangles_in (records s)) greatest
+  Counted-all h = counted_all (records-stop (drop w.at s) h)
+
+  -- its body is cut
+  pub Counting-broken : {n : ℕ} → w.at + 6 ≤ length s → n ≡ field 4 s w.at → length s < w.at + 6 + n → total ≡ min (triangles_in (records s)) greatest
+  Counting-broken h e l = counted_all (records-none s w.at w.low (omega (arith, e)))
 
   module _ {found : RecordSpan} {others : List RecordSpan} (e : rest ≡ found ∷ others) where
     first : First s w.at found others

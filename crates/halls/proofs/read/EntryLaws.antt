@@ -6,7 +6,6 @@ use Prim.Native.Nat.{ℕ, suc, ◌-◌, ◌/◌, ◌≤◌, ◌<◌}
 use native.Mathlib.Omega.{arith}
 use mathlib.Core.Logic.{⊎_elim}
 use lib.ListN.{length, take, drop, drop_of_length-le}
-use Rattle.std.proofs.lemmas.Bool.{cases_lt}
 use Rattle.std.proofs.lemmas.List.{length-drop}
 use lib.Seq.{take-nil, take_all}
 use Rattle.sections.specs.Le.{field}
@@ -15,6 +14,7 @@ use Rattle.sections.proofs.LeLaws.{field_in, field_out}
 use Rattle.vertices.specs.Runs.{numbers}
 use Rattle.halls.specs.Reading.{first, rest}
 use Rattle.halls.specs.Inner.Measure.{entries_of, whole_numbers}
+use Rattle.halls.proofs.read.PointerLists.{below_or}
 
 -- the slice behind the first k bytes
 behind : (k : ℕ) (s : List ℕ) → take (length s - k) (drop k s) ≡ drop k s
@@ -28,10 +28,10 @@ pub pointers_none : (s : List ℕ) → length s < 8 → whole_numbers 8 s ≡ []
 unfolding numbers
 pointers_none s h = let e : length s / 8 ≡ 0 = omega arith in rw e
 
-pub pointers_next : (s : List ℕ) → 8 ≤ length s → whole_numbers 8 s ≡ field 8 s 0 ∷ whole_numbers 8 (take (length s - 8) (drop 8 s))
+pub pointers_next : (s : List ℕ) → 8 ≤ length s → whole_numbers 8 s ≡ field 8 s 0 ∷ whole_numbers 8 (drop 8 s)
 pointers_next s h =
     let e : length s / 8 ≡ suc (length (drop 8 s) / 8) = rw length-drop (omega arith) in
-    ap (λ n. numbers 8 n s) e ∙ next-is 8 (length (drop 8 s) / 8) s h ∙ ap (λ (b : List ℕ). field 8 s 0 ∷ whole_numbers 8 b) (sym (behind 8 s))
+    ap (λ n. numbers 8 n s) e ∙ next-is 8 (length (drop 8 s) / 8) s h
 
 -- ---- the mapping, to its end and behind it
 
@@ -60,7 +60,7 @@ module _ (m : List ℕ) where
       record { shader = ap first is ∙ sym (field_out 2 m 0 h); others = ap rest is ∙ sym gone }
 
   shaders-next : Shaders
-  shaders-next = ⊎_elim none-left some-left (cases_lt (length m) 2)
+  shaders-next = ⊎_elim none-left some-left (below_or (length m) 2)
 
   pub entries_next : {shader n : ℕ} → shader ≡ field 2 m 0 → n ≡ min (length m) 2 → (p : ℕ) (ps : List ℕ)
       → entries_of (whole_numbers 2 m) (p ∷ ps) ≡ record { shader = shader; pointer = p } ∷ entries_of (whole_numbers 2 (take (length m - n) (drop n m))) ps

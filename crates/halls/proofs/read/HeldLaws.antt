@@ -1,14 +1,17 @@
 -- The bytes of a view's indices, by their width.
 use Rattle.std.specs.Prelude.{Option, None, Some}
 use Rattle.std.specs.Option.{option_map_or}
-use mathlib.Core.Path.{◌≡◌, refl, ap, ◌∙◌}
+use mathlib.Core.Path.{◌≡◌, refl, sym, ap, ◌∙◌}
 use mathlib.Core.List.{List, [], ◌++◌}
-use Prim.Native.Nat.{ℕ, ◌+◌, ◌*◌, ◌^◌, ◌<◌}
+use Prim.Native.Nat.{ℕ, ◌+◌, ◌*◌, ◌^◌, ◌<◌, ◌≤◌}
 use native.Mathlib.Omega.{arith}
-use lib.ListN.{length}
+use lib.ListN.{length, get_or}
+use lib.Seq.{take_all}
+use Rattle.sections.specs.Edit.{overwrite}
 use Rattle.sections.specs.Le.{bytes}
+use Rattle.sections.proofs.EditLaws.{overwrite-then}
 use Rattle.vertices.specs.Runs.{numbers, run}
-use Rattle.vertices.proofs.RunLaws.{length_run, numbers-length}
+use Rattle.vertices.proofs.RunLaws.{length_run, numbers-length, run-numbers}
 use Rattle.halls.specs.List.{Indices, record_bytes, indices_record}
 use Rattle.halls.specs.Inner.View.{HeldIn, index_bytes, held_count, indices_in}
 use Rattle.halls.specs.declared.read.view.IndexItems.{IndexItems}
@@ -61,6 +64,12 @@ module _ (v : IndexView) (b : List ℕ) where
     pub long_by : HeldIn v b → length b ≡ v.count * index_bytes i.width
     long_by h = h.long ∙ rw e
 
+    -- indices of four bytes are written as they are
+    pub four_bytes : ((j : ℕ) → get_or b j 0 < 256) → i.width ≡ Four → HeldIn v b → b ≡ run 4 (indices_in v b).items
+    four_bytes low w h =
+        let n : length b ≡ v.count * 4 = long_by h ∙ ap (λ (k : IndexWidth). v.count * index_bytes k) w in
+        sym (ap (run 4) (items_by ∙ ap (λ (k : IndexWidth). numbers (index_bytes k) v.count b) w) ∙ run-numbers 4 v.count b low (omega arith) ∙ take_all (v.count * 4) b (omega arith))
+
   pub items_length_lem : length (indices_in v b).items ≡ held_count v
   unfolding indices_in
   items_length_lem = items_long v.count b v.items
@@ -75,3 +84,11 @@ index-parts i =
     let body : List ℕ = bytes 4 i.count ++ run 4 i.items in
     let q : 4 + 4 * length i.items ≡ length body = omega (arith, length_run 4 i.items) in
     ap (λ n. bytes 4 n ++ (bytes 2 5 ++ body)) q
+
+-- the counts, and the indices right behind them
+pub Record-put : (s : List ℕ) (at : ℕ) (i : Indices) {t v : List ℕ} → at + (10 + 4 * length i.items) ≤ length s → t ≡ overwrite s at ((bytes 4 (4 + 4 * length i.items) ++ bytes 2 5) ++ bytes 4 i.count)
+    → v ≡ overwrite t (at + 10) (run 4 i.items) → v ≡ overwrite s at (indices_record i)
+unfolding bytes
+Record-put s at i room e f =
+    f ∙ ap (λ (l : List ℕ). overwrite l (at + 10) (run 4 i.items)) e ∙ overwrite-then s at 10 _ (run 4 i.items) refl (omega (arith, length_run 4 i.items, room))
+    ∙ ap (overwrite s at) (index-parts i)

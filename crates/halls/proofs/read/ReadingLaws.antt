@@ -12,6 +12,7 @@ use native.Mathlib.Omega.{arith}
 use lib.Dec.{eqb}
 use Rattle.halls.specs.Reading.{Reading, refused, read, need, and_then}
 use Rattle.halls.specs.Inner.Measure.{measured}
+use Rattle.halls.specs.Inner.Measured.{RefusedAs}
 use Rattle.halls.specs.declared.answer.Refusal.{Refusal}
 use Rattle.halls.specs.declared.read.measure.Measured.{Measured}
 
@@ -111,11 +112,6 @@ measured_or_zero (Err e) = record { «length» = 0; count = 0 }
 abbrev refusal_or_zero : Result Measured Refusal → Refusal
 refusal_or_zero (Ok v) = record { check = 0; needed = 0 }
 refusal_or_zero (Err e) = e
-
--- a refusal, and what it says
-pub record RefusedAs {A : Type 0} (r : Reading A) (e : Refusal) : Type 0 where
-  pub is : r ≡ refused e.check
-  pub needs : e ≡ record { check = e.check; needed = 0 }
 
 module _ {A : Type 0} (bytes_of count_of : A → ℕ) where
   pub read_as : (r : Reading A) (v : Measured) → Ok v ≡ measured bytes_of count_of r → ReadAs bytes_of count_of r v

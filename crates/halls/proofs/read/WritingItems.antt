@@ -23,10 +23,15 @@ items-start f all d at = record { done = []; same = refl; next-is = omega arith;
 
 module _ {A : Type 0} {f : A → List ℕ} {all left : List A} {d : List ℕ} {at : ℕ} {b : List ℕ} {next : ℕ} (w : WritingItems f all left d at b next) where
   -- nothing is left
-  pub items-end : left ≡ [] → Wrote d at (each f all) next b
-  items-end e =
-      let ended : all ≡ w.done = w.whole ∙ rw e (append-nil w.done) in
-      (w.next-is ∙ ap (λ (xs : List A). at + length (each f xs)) (sym ended), w.is ∙ ap (λ (xs : List A). overwrite d at (each f xs)) (sym ended))
+  module _ (e : left ≡ []) where
+    ended : all ≡ w.done
+    ended = w.whole ∙ rw e (append-nil w.done)
+
+    pub items_place : next ≡ at + length (each f all)
+    items_place = w.next-is ∙ ap (λ (xs : List A). at + length (each f xs)) (sym ended)
+
+    pub items-end : Wrote d at (each f all) next b
+    items-end = (items_place, w.is ∙ ap (λ (xs : List A). overwrite d at (each f xs)) (sym ended))
 
   -- the next item
   module _ {x : A} {others : List A} (room : at + length (each f all) ≤ length d) (step : left ≡ x ∷ others) where

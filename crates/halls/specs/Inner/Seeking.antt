@@ -1,12 +1,9 @@
 -- How the finder seeks a record, from the place of the check's pass that is nearest. Private contracts speak of this; `PlaceLaws` ties it to the places in a hall.
-use Rattle.std.specs.Prelude.{Option, None, Some, unwrap_or, Result, MatchResult}
-use Rattle.std.specs.Prelude.{◌≡◌, cond, ◌&&◌, List, [], ◌∷◌, ℕ, ◌+◌, ◌-◌, ◌≤◌, ◌<◌, min, eqb, leb, length, take, drop}
+use Rattle.std.specs.Prelude.{Option, None, Some, unwrap_or}
+use Rattle.std.specs.Prelude.{◌≡◌, cond, ◌&&◌, List, [], ◌∷◌, ℕ, ◌+◌, ◌-◌, ◌≤◌, ◌<◌, min, eqb, leb, length, drop}
 use Rattle.sections.specs.Le.{field}
 use Rattle.halls.specs.Parsing.{models_in}
 use Rattle.halls.specs.Records.{Record, records}
-use Rattle.halls.specs.Places.{geometry_place}
-use Rattle.halls.specs.declared.answer.Refusal.{Refusal}
-use Rattle.halls.specs.declared.check.find.GeometryPlace.{GeometryPlace}
 use Rattle.halls.specs.declared.check.pass.Mark.{Mark}
 
 -- of records that begin at `at`, the place of the one of this kind with `skip` of its kind before it; a model's record ends the search for another kind
@@ -50,11 +47,3 @@ last = 18446744073709551615
 -- where the model ends whose record begins at this place: at the next model's record, or with the bytes
 unfoldable pub model_end : List ℕ → ℕ → ℕ
 model_end s place = unwrap_or (sought s (place + 6 + field 4 s place) 1 0) (length s)
-
--- ---- what a call is told
-
--- the places of geometry g of model m in the first n bytes of a buffer, or the refusal by check 21
-abbrev pub Placed : List ℕ → ℕ → ℕ → ℕ → Result GeometryPlace Refusal → Type 0
-Placed b n m g r =
-    let there = geometry_place (models_in (records (take n b))) m g in
-    MatchResult r (λ p. there ≡ Some p) (λ e. (there ≡ None) × (e ≡ record { check = 21; needed = 0 }))

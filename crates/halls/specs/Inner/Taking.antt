@@ -1,9 +1,7 @@
 -- Take in: a reading as a hall's models and geometries, what they come to, and their bytes. Private contracts speak of this; `TakenVerdict` and `TakenBytes` tie it to the hall that `take_in` proposes.
-use Rattle.std.specs.Prelude.{Option, None, Some, option_map, unwrap_or}
+use Rattle.std.specs.Prelude.{Option, None, Some, option_map}
 use Rattle.std.specs.Prelude.{List, [], ◌∷◌, ◌++◌, map, ℕ, ◌+◌, ◌*◌, ◌^◌, ◌<◌, min, length}
 use Rattle.sections.specs.Address.{Sections}
-use Rattle.sections.specs.Lists.{header_at}
-use Rattle.sections.specs.declared.lists.PointerListHeader.{PointerListHeader}
 use Rattle.halls.specs.Calls.{taken_geometry}
 use Rattle.halls.specs.Hall.{FullGeometry, listed_geometry}
 use Rattle.halls.specs.Inner.Judging.{lowest_of}
@@ -59,21 +57,21 @@ held_in (Some i) = length i.items
 unfoldable pub geometry_taken : Geometry → Taken
 geometry_taken g = record {
   lowest = lowest_in (as_halls g);
-  models = 0;
-  geometries = 1;
-  units = geometry_units (content_in g.vertices) (held_in g.indices);
+  summary = record { models = 0; geometries = 1; units = geometry_units (content_in g.vertices) (held_in g.indices) };
   «length» = 65 + content_in g.vertices + 4 * held_in g.indices;
 }
 
 abbrev pub nothing_taken : Taken
-nothing_taken = record { lowest = passed; models = 0; geometries = 0; units = 0; «length» = 0 }
+nothing_taken = record { lowest = passed; summary = record { models = 0; geometries = 0; units = 0 }; «length» = 0 }
 
 abbrev pub together : Taken → Taken → Taken
 together a b = record {
   lowest = min a.lowest b.lowest;
-  models = a.models + b.models;
-  geometries = a.geometries + b.geometries;
-  units = a.units + b.units;
+  summary = record {
+    models = a.summary.models + b.summary.models;
+    geometries = a.summary.geometries + b.summary.geometries;
+    units = a.summary.units + b.summary.units;
+  };
   «length» = a.«length» + b.«length»;
 }
 
@@ -83,7 +81,7 @@ all_taken f (x ∷ xs) = together (f x) (all_taken f xs)
 
 -- a model's record with so many entries
 abbrev pub record_taken : ℕ → Taken
-record_taken entries = record { lowest = passed; models = 1; geometries = 0; units = model_units entries; «length» = 12 + 2 * entries }
+record_taken entries = record { lowest = passed; summary = record { models = 1; geometries = 0; units = model_units entries }; «length» = 12 + 2 * entries }
 
 unfoldable pub model_taken : Model → Taken
 model_taken m = together (record_taken (length m.geometries)) (all_taken geometry_taken m.geometries)
@@ -99,14 +97,6 @@ shader_bytes g = bytes 2 g.shader
 unfoldable pub model_bytes : Model → List ℕ
 model_bytes m =
     record_bytes 1 (bytes 4 m.binding ++ (bytes 2 m.mask ++ run 2 (map (λ (g : Geometry). g.shader) m.geometries))) ++ each geometry_bytes m.geometries
-
--- ---- the header at an address; where it does not resolve, that of an empty list
-
-abbrev pub or_empty_list : Option PointerListHeader → PointerListHeader
-or_empty_list h = unwrap_or h (record { pointer = 0; count = 0; capacity = 0 })
-
-abbrev pub header_or_empty : Sections → ℕ → PointerListHeader
-header_or_empty s va = or_empty_list (header_at s va)
 
 -- ---- what the pass that judges carries on its way
 
@@ -134,7 +124,7 @@ full_shown v b content i = record {
 
 -- sums that fit their fields
 pub record Fitting (t : Taken) : Type 0 where
-  pub models : t.models < 2 ^ 64
-  pub geometries : t.geometries < 2 ^ 64
-  pub image : t.units < 2 ^ 64
+  pub models : t.summary.models < 2 ^ 64
+  pub geometries : t.summary.geometries < 2 ^ 64
+  pub image : t.summary.units < 2 ^ 64
   pub long : t.«length» < 2 ^ 64

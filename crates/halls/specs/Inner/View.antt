@@ -3,16 +3,17 @@ use Rattle.std.specs.Prelude.{Option, None, Some, option_map, ◌≡◌, cond, L
 use Rattle.std.specs.Option.{option_or, option_and_then, option_map_or}
 use Prim.{Unit}
 use Rattle.sections.specs.Address.{Sections, located, range_of, resolved}
-use Rattle.vertices.specs.Buffer.{vertex_buffer_at}
+use Rattle.vertices.specs.Buffer.{layout_number, vertex_buffer_at}
 use Rattle.vertices.specs.declared.buffer.VertexBuffer.{VertexBuffer}
 use Rattle.vertices.specs.declared.declaration.VertexDeclaration.{VertexDeclaration}
 use Rattle.vertices.specs.Runs.{numbers}
-use Rattle.halls.specs.List.{Indices, Geometry, Model, optional, geometry_record, declaration_record, vertices_record, indices_record}
+use Rattle.halls.specs.List.{Vertices, Indices, Geometry, Model, optional, geometry_record, declaration_record, vertices_record, indices_record}
 use Rattle.halls.specs.Blocks.{ModelBlock, model_block, GeometryBlock, geometry_block, IndexBlock, index_block}
 use Rattle.halls.specs.Reading.{or_empty, vertex_count_of, vertices_of, geometry_of, list_at, mapping_of}
 use Rattle.halls.specs.Inner.Measure.{entries_of, list_bytes}
 use Rattle.halls.specs.declared.read.entries.Entry.{Entry}
 use Rattle.halls.specs.declared.format.numbers.GeometryNumbers.{GeometryNumbers}
+use Rattle.halls.specs.declared.format.record.VertexBytes.{VertexBytes}
 use Rattle.halls.specs.declared.read.view.IndexWidth.{IndexWidth}
 use Rattle.halls.specs.declared.read.view.IndexWidth.TheVariants.{Two, Four}
 use Rattle.halls.specs.declared.read.view.IndexItems.{IndexItems}
@@ -96,6 +97,14 @@ numbers_seen n = record {
   vertices = None;
   indices = None;
 }
+
+-- the vertices that a record is made of
+abbrev pub vertices_in : VertexBytes → Vertices
+vertices_in v = record { layout = layout_number v.layout; stride = v.stride; count = v.count; content = v.content.now }
+
+-- of a geometry that has all four
+unfoldable pub four_records : GeometryNumbers → VertexDeclaration → Vertices → Indices → List ℕ
+four_records n d v i = geometry_record (numbers_seen n) ++ (declaration_record d ++ (vertices_record v ++ indices_record i))
 
 -- ---- that its places hold what it says
 

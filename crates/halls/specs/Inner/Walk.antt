@@ -1,23 +1,26 @@
 -- One pass over a hall's list: what stands at the front of the bytes left, what the records behind come to, and what a walk knows of those that it
 -- has passed. Private contracts speak of this; `TallyLaws` ties it to the verdict.
-use Rattle.std.specs.Prelude.{Option, Some, None, Result, MatchResult}
+use Rattle.std.specs.Borrow.{Bor}
+use Rattle.std.specs.Prelude.{Option, Some, None, is_some, Result, MatchResult}
 use Rattle.std.specs.Prelude.{◌≡◌, Bool, true, false, cond, ◌&&◌, List, [], ◌∷◌, ◌⊎◌, length, take, drop}
 use Rattle.std.specs.Prelude.{ℕ, ◌+◌, ◌*◌, ◌-◌, ◌/◌, ◌≤◌, ◌<◌, min, eqb, leb}
 use Rattle.vertices.specs.Runs.{numbers}
 use Rattle.halls.specs.Every.{every}
-use Rattle.halls.specs.Checks.{geometry_count, judged, hall_verdict}
+use Rattle.halls.specs.Checks.{geometry_count, require, judged, hall_verdict}
 use Rattle.halls.specs.Hall.{FullGeometry, Hall}
 use Rattle.halls.specs.ImageSize.{image_size}
 use Rattle.halls.specs.Fronts.{entries_at, content_at, held_at}
 use Rattle.halls.specs.Inner.Judging.{lowest_of, has_model, has_geometry}
 use Rattle.halls.specs.Inner.Order.{passed, too_large, failing}
 use Rattle.halls.specs.Inner.Seeking.{Marked, Nearest}
+use Rattle.halls.specs.Places.{geometry_place}
 use Rattle.halls.specs.Parsing.{whole, ordered, exact, mapping_count, body_at, geometry_in, models_in, parse, structured}
 use Rattle.halls.specs.Records.{Record, records}
 use Rattle.halls.specs.Verdict.{Verdict, Sound, Fails}
 use Rattle.halls.specs.declared.answer.Refusal.{Refusal}
 use Rattle.halls.specs.declared.format.front.Front.{Front}
 use Rattle.halls.specs.declared.format.front.Front.TheVariants.{Model, Geometry}
+use Rattle.halls.specs.declared.check.find.PlacedGeometry.{PlacedGeometry}
 use Rattle.halls.specs.declared.check.pass.Tally.{Tally}
 use Rattle.halls.specs.declared.check.pass.Mark.{Mark}
 use Rattle.halls.specs.declared.check.pass.Summary.{Summary}
@@ -83,12 +86,15 @@ units_from (r ∷ rs) =
 
 -- ---- the walk
 
--- the entries of the last model's mapping that are left
-abbrev pub left_of : List ℕ → Tally → List ℕ
-left_of s t = numbers 2 t.left (drop t.mapping s)
+-- entries of a mapping, and those that are left of the last model's
+abbrev pub entries_in : List ℕ → List ℕ
+entries_in b = numbers 2 (length b / 2) b
 
-abbrev pub start_tally : Tally
-start_tally = record { at = 0; lowest = passed; summary = record { models = 0; geometries = 0; units = 0 }; model = 0; first = 0; mapping = 0; left = 0 }
+abbrev pub left_of : Tally → List ℕ
+left_of t = entries_in t.left.now
+
+abbrev pub start_tally : Bor (List ℕ) → Tally
+start_tally left = record { at = 0; lowest = passed; summary = record { models = 0; geometries = 0; units = 0 }; model = 0; first = 0; left = left }
 
 abbrev pub mark_of : Tally → Mark
 mark_of t = record { at = t.at; models = t.summary.models; model = t.model; own = t.summary.geometries - t.first }
@@ -101,11 +107,10 @@ before_of t = cond (eqb t.summary.models 0) 0 5
 pub record Walked (s : List ℕ) (t : Tally) : Type 0 where
   pub within : t.at ≤ length s
   pub structure : structured s ≡ well_from (before_of t) (drop t.at s)
-  pub lowest : min passed (lowest_from [] (records s)) ≡ min t.lowest (lowest_from (left_of s t) (records (drop t.at s)))
+  pub lowest : min passed (lowest_from [] (records s)) ≡ min t.lowest (lowest_from (left_of t) (records (drop t.at s)))
   pub models : kind_count 1 (records s) ≡ t.summary.models + kind_count 1 (records (drop t.at s))
   pub geometries : kind_count 2 (records s) ≡ t.summary.geometries + kind_count 2 (records (drop t.at s))
   pub image : units_from (records s) ≡ t.summary.units + units_from (records (drop t.at s))
-  pub mapping : t.mapping + 2 * t.left ≤ t.at
   pub few : t.summary.models + t.summary.geometries ≤ t.at
   pub small : t.summary.units ≤ t.at
   pub first : t.first ≤ t.summary.geometries
@@ -155,3 +160,19 @@ SurveyedFirst b n m g r = WhereSound (hall_verdict b n) (Found (take n b) m g) r
 
 abbrev pub ExaminedFirst : List ℕ → ℕ → Result Summary Refusal → Type 0
 ExaminedFirst b n r = WhereSound (hall_verdict b n) (Counted (models_in (records (take n b)))) r
+
+-- the checks of a hall, and then 21: geometry g of model m is there
+abbrev pub behind : Verdict → Verdict → Verdict
+behind Sound next = next
+behind (Fails check) next = Fails check
+
+abbrev pub placed_verdict : List ℕ → ℕ → ℕ → ℕ → Verdict
+placed_verdict b n m g = behind (hall_verdict b n) (require 21 (is_some (geometry_place (models_in (records (take n b))) m g)) Sound)
+
+-- its places, and what the hall comes to
+pub record PlacedIn (h : Hall) (m g : ℕ) (r : PlacedGeometry) : Type 0 where
+  pub there : geometry_place h m g ≡ Some r.places
+  pub counted : Counted h r.summary
+
+abbrev pub PlacedFirst : List ℕ → ℕ → ℕ → ℕ → Result PlacedGeometry Refusal → Type 0
+PlacedFirst b n m g r = WhereSound (placed_verdict b n m g) (PlacedIn (models_in (records (take n b))) m g) r

@@ -7,6 +7,7 @@ ghost use Rattle.halls.specs.Inner.Walk.{ExaminedFirst, SurveyedFirst};
 
 use crate::answer::Refusal;
 use crate::check::pass::{Findings, Summary, survey};
+use crate::check::sought::GeometryId;
 
 // Whether the first n bytes of `hall` are a hall; if not, the first check, in the order in which they are asked, that fails anywhere in it.
 pub fn hall_check(hall: &[u8], n: usize) -> Result<(), Refusal>
@@ -30,7 +31,7 @@ pub fn hall_size(hall: &[u8], n: usize) -> Result<HallSize, Refusal>
     let found = examine_first(hall, n)?;
     Ok(HallSize {
         models: found.models,
-        bytes: 16 * (1 + (found.models + 1) / 2 + found.units),
+        bytes: 16 * (1 + found.models.div_ceil(2) + found.units),
     })
 }
 
@@ -38,16 +39,17 @@ pub fn hall_size(hall: &[u8], n: usize) -> Result<HallSize, Refusal>
 pub fn examine_first(hall: &[u8], n: usize) -> Result<Summary, Refusal>
     ensures { ExaminedFirst hall.now n result }
 {
-    let found = survey_first(hall, n, 0, 0)?;
+    // Whichever geometry is sought: only the counts are kept.
+    let found = survey_first(hall, n, GeometryId::default())?;
     Ok(found.summary)
 }
 
-// The same, and the place of the pass that is nearest to a geometry of a model.
-pub fn survey_first(hall: &[u8], n: usize, model: u64, geometry: u64) -> Result<Findings, Refusal>
-    ensures { SurveyedFirst hall.now n model geometry result }
+// The same, and the place of the pass that is nearest to the geometry that is sought.
+pub fn survey_first(hall: &[u8], n: usize, sought: GeometryId) -> Result<Findings, Refusal>
+    ensures { SurveyedFirst hall.now n sought.model sought.index result }
 {
     if hall.len() < n {
         return Err(Refusal::by(11));
     }
-    survey(&hall[..n], model, geometry)
+    survey(&hall[..n], sought)
 }

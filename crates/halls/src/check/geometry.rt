@@ -1,6 +1,6 @@
 // Checks 14 to 18 and 27 of one geometry.
 ghost use Rattle.std.specs.Prelude.{◌≡◌};
-ghost use Rattle.halls.specs.Checks.{strides_agree, vertex_counts_agree, index_counts_agree};
+ghost use Rattle.halls.specs.Checks.{has_size, strides_agree, vertex_counts_agree, index_counts_agree};
 ghost use Rattle.halls.specs.Fronts.{GeometryFront, front_geometry};
 ghost use Rattle.halls.specs.Inner.Judging.{HeadJudged, HeadTested, head_of, inside_stride, lowest_of};
 
@@ -10,9 +10,12 @@ use crate::check::scan::triangles_lowest;
 use crate::format::front::GeometryShape;
 use crate::format::numbers::GeometryNumbers;
 use sections::{u8_le, u16_le, u32_le};
-use vertices::{VertexDeclaration, VertexSemantic, read_declaration};
+use vertices::{VertexComponent, VertexDeclaration, VertexSemantic, read_declaration};
 
-// The numbers of a geometry's four records, and how many indices it holds.
+// The most vertices of a geometry (check 16).
+pub const MOST_VERTICES: u32 = 65535;
+
+// The numbers of a geometry's four records, and how many indices it holds. The layout is a number: in a list that is not checked yet any byte may stand there.
 #[derive(Clone, Copy)]
 pub struct GeometryHead {
     pub numbers: GeometryNumbers,
@@ -89,20 +92,26 @@ fn strides_agree(head: GeometryHead) -> bool
 }
 
 // Check 15: the position has a size, and all components together are no longer than the stride.
+#[tactic(auto, unfolding(crate::specs::Inner::Judging::inside_stride))]
 pub fn components_inside(declaration: VertexDeclaration, stride: u16) -> bool
     ensures { result ≡ inside_stride declaration stride }
 {
-    let Some(position) = declaration.component_of(VertexSemantic::Position) else {
-        return false;
-    };
-    position.size != 0 && declaration.size_in_bytes() <= stride
+    has_size(declaration.component_of(VertexSemantic::Position))
+        && declaration.size_in_bytes() <= stride
 }
 
+fn has_size(component: Option<VertexComponent>) -> bool
+    ensures { result ≡ has_size component }
+{
+    component.is_some_and(|c| 0 < c.size)
+}
+
+// Two comparisons: with `matches!` or `contains` in their place the check left two goals of the proof open, which it finds by itself here.
 fn vertex_counts_agree(head: GeometryHead) -> bool
     ensures { HeadTested vertex_counts_agree head result }
 {
     let count = head.vertices_count;
-    u32::from(head.numbers.vertex_count) == count && 1 <= count && count <= 65535
+    u32::from(head.numbers.vertex_count) == count && 1 <= count && count <= MOST_VERTICES
 }
 
 fn index_counts_agree(head: GeometryHead) -> bool

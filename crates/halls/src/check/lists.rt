@@ -6,7 +6,7 @@ ghost use Rattle.vertices.specs.Runs.{numbers};
 ghost use Rattle.halls.specs.Inner.Counting.{triangle_in};
 
 use crate::check::triangle::Triangle;
-use crate::read::widen::{u16_at, u32_at};
+use crate::format::fields::{u16_at, u32_at};
 use std::marker::PhantomData;
 
 pub trait IndexList: Copy {
@@ -17,7 +17,7 @@ pub trait IndexList: Copy {
         ensures { result ≡ triangle_in (indices self) i };
 }
 
-// What an index is stored as; counted as a four-byte number: of two bytes each, triangles are no faster to tell apart.
+// How an index is stored: in two bytes or in four. Read as four-byte numbers either way: comparing two-byte ones was slower (docs/PERFORMANCE.md).
 pub trait StoredIndex: Copy {
     ghost WIDTH: { ℕ };
 

@@ -2,7 +2,7 @@
 // So the first check that fails is the one of the lowest rank. `verdict_of` makes a `Result` of the last one.
 // Ranks stay numbers: with an enum and its derived order the scans were proved and as fast, but enum, ranks and laws take 72 lines and save 26.
 ghost use Rattle.std.specs.Prelude.{◌≡◌};
-ghost use Rattle.halls.specs.Inner.Order.{check_of, Told};
+ghost use Rattle.halls.specs.Inner.Order.{check_of, failing, Told};
 
 use crate::answer::Refusal;
 
@@ -11,6 +11,16 @@ pub const TOO_LARGE: u8 = 99;
 
 // Above every rank: no check fails.
 pub const PASSED: u8 = 100;
+
+// Of one check with its rank: that rank, unless the check holds.
+pub fn failing(rank: u8, holds: bool) -> u8
+    ensures { result ≡ failing rank holds }
+{
+    if holds {
+        return PASSED;
+    }
+    rank
+}
 
 // The number of the check of a rank.
 pub fn check_of(rank: u8) -> u8

@@ -1,29 +1,26 @@
 // A geometry added at the end of a hall's last model.
-ghost use Rattle.std.specs.Prelude.{◌≡◌, ◌++◌, ◌+◌, ◌*◌, ◌-◌, ◌^◌, ◌≤◌, ◌<◌, length, take};
+ghost use Rattle.std.specs.Prelude.{◌≡◌, ◌++◌, ◌+◌, ◌*◌, ◌-◌, ◌^◌, ◌≤◌, ◌<◌, length};
 ghost use Rattle.sections.specs.Edit.{part, overwrite};
 ghost use Rattle.sections.specs.Le.{bytes};
 ghost use Rattle.halls.specs.Calls.{given_in, given_geometry, add_geometry};
 ghost use Rattle.halls.specs.Hall.{listed_geometry};
 ghost use Rattle.halls.specs.Inner.Judging.{given_lowest};
 ghost use Rattle.halls.specs.List.{write_geometry};
-ghost use Rattle.halls.specs.Inner.Walk.{model_units, geometry_units, Counted};
-ghost use Rattle.halls.specs.Checks.{hall_verdict};
-ghost use Rattle.halls.specs.Parsing.{models_in};
-ghost use Rattle.halls.specs.Places.{model_place};
-ghost use Rattle.halls.specs.Records.{records};
+ghost use Rattle.halls.specs.Inner.Walk.{model_units, geometry_units};
 ghost use Rattle.halls.specs.Step.{Stepped};
-ghost use Rattle.halls.specs.Verdict.{Sound};
 
 use crate::answer::{Refusal, room};
 use crate::check::check::survey_first;
-use crate::check::geometry::components_inside;
+use crate::check::geometry::{MOST_VERTICES, components_inside};
 use crate::check::order::verdict_of;
-use crate::check::pass::{LAST, Summary, limits_lowest};
-use crate::check::words::lent_indices_lowest;
+use crate::check::pass::{Summary, limits_lowest};
+use crate::check::scan::lent_indices_lowest;
+use crate::check::sought::GeometryId;
+use crate::format::front::{GeometryShape, entries_of, model_units};
 use crate::format::numbers::GeometryNumbers;
-use crate::format::record::{put_declaration, put_geometry, put_lent_indices, put_vertex_bytes};
+use crate::format::record::{VertexBytes, put_full};
 use sections::{copy_within, put_u16_le, put_u32_le, u32_le};
-use vertices::VertexDeclaration;
+use vertices::{VertexBufferLayout, VertexDeclaration};
 
 // A geometry as a caller gives it: `content` are the bytes of `count` vertices.
 #[derive(Clone, Copy)]
@@ -40,29 +37,23 @@ pub struct GivenGeometry<'a> {
 pub fn add_geometry(hall: &mut [u8], n: usize, given: GivenGeometry) -> Result<u64, Refusal>
     ensures { Stepped (add_geometry (given_in given.entry)) hall.old n result hall.new }
 {
-    let found = survey_first(hall, n, LAST, 0)?;
-    let last = found.summary.models.saturating_sub(1) as u64;
+    let found = survey_first(hall, n, GeometryId::first_of_last())?;
+    let summary = found.summary;
+    let last = summary.models.saturating_sub(1) as u64;
     let place = found.nearest.place_of(last).ok_or(Refusal::by(21))?;
-    append_geometry(hall, n, place, found.summary, given)
-}
-
-// To the last model, whose record begins at `place`.
-fn append_geometry(
-    hall: &mut [u8],
-    n: usize,
-    place: usize,
-    found: Summary,
-    given: GivenGeometry,
-) -> Result<u64, Refusal>
-    requires { (hall_verdict hall.old n ≡ Sound) × (Counted (models_in (records (take n hall.old))) found) × ((model_place (models_in (records (take n hall.old))) (found.models - 1)) ≡ Some place) }
-    ensures { Stepped (add_geometry (given_in given.entry)) hall.old n result hall.new }
-{
     let size = u32_le(hall, place);
-    let entries = (size as usize - 6) / 2;
-    let added = added_units(entries, given.content.len(), given.indices.len());
-    let limits = limits_lowest(found.models, found.geometries + 1, found.units + added);
-    verdict_of(given_lowest(given).min(limits))?;
-    let needed = n as u64 + 67 + given.content.len() as u64 + 4 * given.indices.len() as u64;
+    let entries = entries_of(&hall[place..]);
+    let shape = GeometryShape {
+        content: given.content.len(),
+        held: given.indices.len(),
+    };
+    let grown = Summary {
+        geometries: summary.geometries + 1,
+        units: summary.units + added_units(entries, shape),
+        ..summary
+    };
+    verdict_of(given_lowest(given).min(limits_lowest(grown)))?;
+    let needed = n as u64 + 2 + shape.record_bytes() as u64;
     room(24, hall.len(), needed)?;
     insert_entry(hall, n, place + 6 + size as usize, given.shader);
     put_u32_le(hall, place, size + 2);
@@ -70,7 +61,7 @@ fn append_geometry(
     Ok(needed)
 }
 
-// The rank of the first of checks 11, 14 to 18 and 27 that the given geometry fails, or PASSED. Before them its lengths need not fit the numbers of a head.
+// The rank of the first of checks 11, 14 to 18 and 27 that the given geometry fails, or PASSED. No record is made of it before: its lengths need not fit one.
 fn given_lowest(given: GivenGeometry) -> u8
     ensures { result ≡ given_lowest (given_geometry (given_in given.entry)) }
 {
@@ -82,7 +73,7 @@ fn given_lowest(given: GivenGeometry) -> u8
         indices,
         ..
     } = given;
-    if content.len() as u64 != count as u64 * stride as u64 {
+    if content.len() as u64 != u64::from(count) * u64::from(stride) {
         return 11;
     }
     if declaration.stride != stride {
@@ -91,20 +82,18 @@ fn given_lowest(given: GivenGeometry) -> u8
     if !components_inside(declaration, stride) {
         return 15;
     }
-    if count < 1 || 65535 < count {
+    if count < 1 || MOST_VERTICES < count {
         return 16;
     }
     lent_indices_lowest(indices, count)
 }
 
 // What the image grows by, in units of 16 bytes, where the last model has `entries` geometries.
-fn added_units(entries: usize, content: usize, held: usize) -> usize
-    requires { (entries < 2 ^ 32) × (content < 2 ^ 63) × (held < 2 ^ 63) }
-    ensures { result + model_units entries ≡ model_units (entries + 1) + geometry_units content held }
+fn added_units(entries: usize, shape: GeometryShape) -> usize
+    requires { entries < 2 ^ 32 }
+    ensures { result + model_units entries ≡ model_units (entries + 1) + geometry_units shape.content shape.held }
 {
-    let pointers = (entries + 2) / 2 - (entries + 1) / 2;
-    let mapping = (entries + 8) / 8 - (entries + 7) / 8;
-    25 + (content + 15) / 16 + (held + 7) / 8 + pointers + mapping
+    shape.units() + model_units(entries + 1) - model_units(entries)
 }
 
 // The bytes from `entry` to n move up, and the shader id is put before them.
@@ -118,7 +107,8 @@ fn insert_entry(hall: &mut [u8], n: usize, entry: usize, shader: u16)
 
 // The four records.
 fn put_given(out: &mut [u8], at: usize, given: GivenGeometry)
-    requires { (at + (65 + length given.content.now + 4 * length given.indices.now) ≤ length out.old) × (length given.content.now < 2 ^ 31) × (length given.indices.now < 2 ^ 29) × (given.count ≤ 65535) }
+    requires room { at + (65 + length given.content.now + 4 * length given.indices.now) ≤ length out.old }
+    requires few { (length given.content.now < 2 ^ 31) × (length given.indices.now < 2 ^ 29) × (given.count ≤ 65535) }
     ensures { out.new ≡ overwrite out.old at (write_geometry (listed_geometry (given_geometry (given_in given.entry)))) }
 {
     let numbers = GeometryNumbers {
@@ -128,9 +118,18 @@ fn put_given(out: &mut [u8], at: usize, given: GivenGeometry)
         vertex_count: given.count as u16,
         stride: given.stride,
     };
-    let content = given.content;
-    put_geometry(out, at, numbers);
-    put_declaration(out, at + 20, given.declaration);
-    put_vertex_bytes(out, at + 42, 0, given.stride, given.count, content);
-    put_lent_indices(out, at + 55 + content.len(), given.indices);
+    let vertices = VertexBytes {
+        layout: VertexBufferLayout::Legacy,
+        stride: given.stride,
+        count: given.count,
+        content: given.content,
+    };
+    put_full(
+        out,
+        at,
+        numbers,
+        given.declaration,
+        vertices,
+        &given.indices,
+    );
 }

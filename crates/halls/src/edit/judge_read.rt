@@ -1,5 +1,7 @@
-// Checks 11, 14 to 18 and 27 of models and geometries as they are read, and what they come to as a hall's. It runs after the first pass of
-// the hall list call has refused nothing. The loops over models and over geometries stay apart: a trait of the two steps is longer than a loop.
+// Checks 11, 14 to 18 and 27 of models and geometries as they are read, and what they come to as a hall's. It runs after `measure_list`
+// has refused nothing.
+//
+// `Fitting` is asked of a result that is still to be formed: as an invariant of `Taken` it would be known of both summands, and not of their sum.
 ghost use Rattle.std.specs.Prelude.{◌≡◌, ◌*◌, ◌^◌, ◌<◌, length};
 ghost use Rattle.halls.specs.Inner.Judging.{HeadJudged, head_of, indices_lowest_of, lowest_of};
 ghost use Rattle.halls.specs.Inner.Taking.{as_halls, lowest_in, geometry_taken, nothing_taken, together, all_taken};
@@ -8,19 +10,19 @@ ghost use Rattle.halls.specs.Inner.Taking.{record_taken, model_taken, content_se
 use crate::check::geometry::{GeometryHead, head_lowest};
 use crate::check::lists::ByteIndices;
 use crate::check::order::PASSED;
+use crate::check::pass::Summary;
 use crate::check::scan::triangles_lowest;
+use crate::format::front::{GeometryShape, model_units};
 use crate::read::parts::{StoredIndices, WholeGeometry};
 use crate::read::stored::{Geometries, HeldGeometry, Models, StoredModel};
 use crate::read::view::{IndexView, IndexWidth, held};
 use vertices::VertexBuffer;
 
-// `lowest` is the rank of the first check that fails, or PASSED; `units` are their parts of the image, 16 bytes each; `length` the bytes of their records.
+// `lowest` is the rank of the first check that fails, or PASSED; `length` the bytes of their records.
 #[derive(Clone, Copy)]
 pub struct Taken {
     pub lowest: u8,
-    pub models: usize,
-    pub geometries: usize,
-    pub units: usize,
+    pub summary: Summary,
     pub length: u64,
 }
 
@@ -28,11 +30,9 @@ pub fn judge_models(models: Models) -> Taken
     requires { Fitting (all_taken model_taken models) }
     ensures { result ≡ all_taken model_taken models.entry }
 {
-    let mut total = nothing_taken();
-    for model in models {
-        total = taken_together(total, judge_model(&model));
-    }
-    total
+    models.fold(nothing_taken(), |total, model| {
+        taken_together(total, judge_model(&model))
+    })
 }
 
 fn judge_model(model: &StoredModel) -> Taken
@@ -46,32 +46,34 @@ fn judge_geometries(geometries: Geometries) -> Taken
     requires { Fitting (all_taken geometry_taken geometries) }
     ensures { result ≡ all_taken geometry_taken geometries.entry }
 {
-    let mut total = nothing_taken();
-    for geometry in geometries {
-        total = taken_together(total, judge_geometry(&geometry.view()));
-    }
-    total
+    geometries.fold(nothing_taken(), |total, geometry| {
+        taken_together(total, judge_geometry(&geometry.view()))
+    })
 }
 
 fn judge_geometry(geometry: &HeldGeometry) -> Taken
     ensures { result ≡ geometry_taken geometry.now }
 {
     let view = geometry.view;
-    let content = content_seen(view.buffer);
-    let count = held_seen(view.indices);
+    let shape = GeometryShape {
+        content: content_seen(view.buffer),
+        held: held_seen(view.indices),
+    };
     Taken {
-        lowest: geometry_lowest(geometry),
-        models: 0,
-        geometries: 1,
-        units: 25 + (content + 15) / 16 + (count + 7) / 8,
-        length: 65 + (content as u64) + 4 * (count as u64),
+        lowest: held_lowest(geometry),
+        summary: Summary {
+            geometries: 1,
+            units: shape.units(),
+            ..Summary::default()
+        },
+        length: shape.record_bytes() as u64,
     }
 }
 
 fn content_seen(buffer: Option<VertexBuffer>) -> usize
     ensures { (result ≡ content_seen buffer) × (result < 2 ^ 48) }
 {
-    buffer.map_or(0, |b| b.vertex_count as usize * b.vertex_stride as usize)
+    buffer.map_or(0, |b| b.size())
 }
 
 fn held_seen(indices: Option<IndexView>) -> usize
@@ -81,13 +83,10 @@ fn held_seen(indices: Option<IndexView>) -> usize
 }
 
 // The rank of the first check that a geometry fails, or PASSED: check 11 where vertices or indices are lacking.
-fn geometry_lowest(geometry: &HeldGeometry) -> u8
+fn held_lowest(geometry: &HeldGeometry) -> u8
     ensures { result ≡ lowest_in (as_halls geometry.now) }
 {
-    match geometry.whole() {
-        Some(whole) => whole_lowest(&whole),
-        None => 11,
-    }
+    geometry.whole().map_or(11, |whole| whole_lowest(&whole))
 }
 
 // Checks 14 to 17, then 18 and 27: where they passed, the geometry's vertex count is the buffer's, and its indices make whole triangles.
@@ -126,12 +125,12 @@ fn items_lowest(indices: &StoredIndices, triangles: usize, limit: u16) -> u8
 {
     let bytes = indices.bytes;
     let limit = u32::from(limit);
-    match indices.view.items {
-        Some(items) => match items.width {
-            IndexWidth::Two => triangles_lowest(ByteIndices::<u16>::of(bytes), triangles, limit),
-            IndexWidth::Four => triangles_lowest(ByteIndices::<u32>::of(bytes), triangles, limit),
-        },
-        None => PASSED,
+    let Some(items) = indices.view.items else {
+        return PASSED;
+    };
+    match items.width {
+        IndexWidth::Two => triangles_lowest(ByteIndices::<u16>::of(bytes), triangles, limit),
+        IndexWidth::Four => triangles_lowest(ByteIndices::<u32>::of(bytes), triangles, limit),
     }
 }
 
@@ -140,9 +139,7 @@ fn nothing_taken() -> Taken
 {
     Taken {
         lowest: PASSED,
-        models: 0,
-        geometries: 0,
-        units: 0,
+        summary: Summary::default(),
         length: 0,
     }
 }
@@ -153,24 +150,28 @@ fn taken_together(a: Taken, b: Taken) -> Taken
 {
     Taken {
         lowest: a.lowest.min(b.lowest),
-        models: a.models + b.models,
-        geometries: a.geometries + b.geometries,
-        units: a.units + b.units,
+        summary: Summary {
+            models: a.summary.models + b.summary.models,
+            geometries: a.summary.geometries + b.summary.geometries,
+            units: a.summary.units + b.summary.units,
+        },
         length: a.length + b.length,
     }
 }
 
 // A model of its geometries: its record comes before them.
 fn with_record(inner: Taken) -> Taken
-    requires { Fitting (together (record_taken inner.geometries) inner) }
-    ensures { result ≡ together (record_taken inner.geometries) inner }
+    requires { Fitting (together (record_taken inner.summary.geometries) inner) }
+    ensures { result ≡ together (record_taken inner.summary.geometries) inner }
 {
-    let entries = inner.geometries;
+    let entries = inner.summary.geometries;
     let model = Taken {
         lowest: PASSED,
-        models: 1,
-        geometries: 0,
-        units: 3 + (entries + 1) / 2 + (entries + 7) / 8,
+        summary: Summary {
+            models: 1,
+            units: model_units(entries),
+            ..Summary::default()
+        },
         length: 12 + 2 * (entries as u64),
     };
     taken_together(model, inner)

@@ -1,60 +1,36 @@
 // A geometry's indices replaced in place: what stands behind them moves up or down.
 ghost use Rattle.std.specs.Prelude.{◌≡◌, ◌++◌, ◌+◌, ◌*◌, ◌-◌, ◌<◌, ◌≤◌, ◌^◌, length, take, drop};
 ghost use Rattle.halls.specs.Calls.{replace_indices};
-ghost use Rattle.halls.specs.Checks.{hall_verdict};
 ghost use Rattle.halls.specs.Inner.NewIndices.{indices_verdict, with_new_indices};
 ghost use Rattle.halls.specs.Inner.Order.{verdict_of};
-ghost use Rattle.halls.specs.Parsing.{models_in};
-ghost use Rattle.halls.specs.Places.{GeometryIn};
-ghost use Rattle.halls.specs.Records.{records};
 ghost use Rattle.halls.specs.Step.{rewritten, Stepped};
-ghost use Rattle.halls.specs.Inner.Walk.{Counted, units};
-ghost use Rattle.halls.specs.Verdict.{Sound};
+ghost use Rattle.halls.specs.Inner.Walk.{units};
 
 use crate::answer::{Refusal, room};
-use crate::check::check::survey_first;
-use crate::check::find::geometry_or_refused;
+use crate::check::find::find_placed;
 use crate::check::order::verdict_of;
 use crate::check::pass::{Summary, size_lowest};
-use crate::check::words::lent_indices_lowest;
+use crate::check::scan::lent_indices_lowest;
+use crate::check::sought::GeometryId;
 use crate::edit::remove::close_gap;
-use crate::format::record::put_lent_indices;
+use crate::format::record::put_indices;
 use sections::{copy_within, put_u32_le, u16_le, u32_le};
 
 // Replaces all indices of a geometry, in the hall of the first n bytes.
 pub fn replace_indices(
     hall: &mut [u8],
     n: usize,
-    model: u64,
-    geometry: u64,
+    replaced: GeometryId,
     indices: &[u32],
 ) -> Result<u64, Refusal>
-    ensures { Stepped (replace_indices model geometry indices.now) hall.old n result hall.new }
+    ensures { Stepped (replace_indices replaced.model replaced.index indices.now) hall.old n result hall.new }
 {
-    let found = survey_first(hall, n, model, geometry)?;
-    let places = geometry_or_refused(hall, n, found.nearest, model, geometry)?;
-    let at = places.geometry;
-    replace_in_geometry(hall, n, model, geometry, at, indices, found.summary)
-}
-
-// In the geometry whose records begin at `at`.
-fn replace_in_geometry(
-    hall: &mut [u8],
-    n: usize,
-    model: u64,
-    geometry: u64,
-    at: usize,
-    indices: &[u32],
-    found: Summary,
-) -> Result<u64, Refusal>
-    requires { (hall_verdict hall.old n ≡ Sound) × (GeometryIn hall.old n model geometry at) × (Counted (models_in (records (take n hall.old))) found) }
-    ensures { Stepped (replace_indices model geometry indices.now) hall.old n result hall.new }
-{
-    let count = u16_le(hall, at + 16);
-    let stride = u16_le(hall, at + 18);
-    let start = at + 55 + count as usize * stride as usize;
+    let found = find_placed(hall, n, replaced)?;
+    let at = found.places.geometry;
+    let start = found.places.indices;
+    let count = u32::from(u16_le(hall, at + 16));
     let held = u32_le(hall, start + 6) as usize;
-    verdict_of(indices_lowest(indices, count as u32, held, found))?;
+    verdict_of(indices_lowest(indices, count, held, found.summary))?;
     let needed = n - 4 * held + 4 * indices.len();
     room(24, hall.len(), needed as u64)?;
     rewrite(hall, n, at, start, held, indices);
@@ -67,18 +43,20 @@ fn indices_lowest(indices: &[u32], limit: u32, held: usize, found: Summary) -> u
     ensures { verdict_of result ≡ indices_verdict indices.now limit found.models (found.units - units (2 * held) + units (2 * length indices.now)) }
 {
     let lowest = lent_indices_lowest(indices, limit);
-    let parts = found.units - (held + 7) / 8 + (indices.len() + 7) / 8;
+    let parts = found.units - held.div_ceil(8) + indices.len().div_ceil(8);
     lowest.min(size_lowest(found.models, parts))
 }
 
 // The list's new bytes, where the indices' record begins at `start` and the lent buffer is long enough.
 fn rewrite(hall: &mut [u8], n: usize, at: usize, start: usize, held: usize, indices: &[u32])
-    requires { (at + 20 ≤ start) × (start + 10 + 4 * held ≤ n) × (n ≤ length hall.old) × (n - 4 * held + 4 * length indices.now ≤ length hall.old) × (4 + 4 * length indices.now < 2 ^ 32) }
+    requires inside { (at + 20 ≤ start) × (start + 10 + 4 * held ≤ n) × (n ≤ length hall.old) }
+    requires room { n - 4 * held + 4 * length indices.now ≤ length hall.old }
+    requires few { 4 + 4 * length indices.now < 2 ^ 32 }
     ensures { hall.new ≡ rewritten hall.old n (with_new_indices (take n hall.old) at start (start + 10 + 4 * held) indices.now) }
 {
     let count = indices.len();
     move_tail(hall, n, start + 10 + 4 * held, start + 10 + 4 * count);
-    put_lent_indices(hall, start, indices);
+    put_indices(hall, start, &indices);
     put_u32_le(hall, at + 8, count as u32);
     put_u32_le(hall, at + 12, (count / 3) as u32);
 }

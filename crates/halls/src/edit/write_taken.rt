@@ -1,17 +1,17 @@
 // What was read, written as a hall's list. Each of these answers the place behind what it wrote.
-// The loops are those of the hall list's second pass, with other steps: a trait of the steps is longer than a loop.
-ghost use Rattle.std.specs.Prelude.{◌≡◌, ◌≤◌, ◌+◌, length};
+// Its loops are no `fold` and stay apart, and its match is none of Option's methods, for the reasons given at the hall list's second pass.
+ghost use Rattle.std.specs.Prelude.{◌≤◌, ◌+◌, length};
 ghost use Rattle.halls.specs.Hall.{listed_geometry};
 ghost use Rattle.halls.specs.List.{each, write_geometry};
 ghost use Rattle.halls.specs.Inner.Small.{Wrote};
 ghost use Rattle.halls.specs.Inner.Taking.{geometry_bytes, model_bytes, shader_bytes};
 
-use crate::format::record::{
-    put_declaration, put_geometry, put_indices, put_model_numbers, put_vertex_bytes,
-};
+use crate::format::front::GeometryShape;
+use crate::format::record::{VertexBytes, put_full, put_model_numbers};
 use crate::read::parts::WholeGeometry;
 use crate::read::stored::{Geometries, HeldGeometry, Models, StoredModel};
 use sections::put_u16_le;
+use vertices::VertexBufferLayout;
 
 pub fn write_taken_models(out: &mut [u8], at: usize, models: Models) -> usize
     requires { at + length (each model_bytes models) ≤ length out.old }
@@ -35,6 +35,7 @@ fn write_taken_model(out: &mut [u8], at: usize, model: &StoredModel) -> usize
     write_taken_geometries(out, next, model.geometries())
 }
 
+// The place is counted: how many geometries there are is known at the end alone.
 fn write_shaders(out: &mut [u8], at: usize, geometries: Geometries) -> usize
     requires { at + length (each shader_bytes geometries) ≤ length out.old }
     ensures { Wrote out.old at (each shader_bytes geometries.entry) result out.new }
@@ -75,11 +76,23 @@ fn write_whole(out: &mut [u8], at: usize, geometry: &WholeGeometry) -> usize
     ensures { Wrote out.old at (write_geometry (listed_geometry geometry.now)) result out.new }
 {
     let buffer = geometry.buffer;
-    let content = geometry.content;
-    put_geometry(out, at, geometry.view.numbers);
-    put_declaration(out, at + 20, buffer.or_position_only());
-    let count = buffer.vertex_count;
-    put_vertex_bytes(out, at + 42, 0, buffer.vertex_stride, count, content);
-    put_indices(out, at + 55 + content.len(), &geometry.indices);
-    at + (65 + content.len() + 4 * geometry.indices.held() as usize)
+    let vertices = VertexBytes {
+        layout: VertexBufferLayout::Legacy,
+        stride: buffer.vertex_stride,
+        count: buffer.vertex_count,
+        content: geometry.content,
+    };
+    let shape = GeometryShape {
+        content: geometry.content.len(),
+        held: geometry.indices.held() as usize,
+    };
+    put_full(
+        out,
+        at,
+        geometry.view.numbers,
+        buffer.or_position_only(),
+        vertices,
+        &geometry.indices,
+    );
+    at + shape.record_bytes()
 }

@@ -1,9 +1,10 @@
-// What stands at the front of a hall's bytes.
-ghost use Rattle.std.specs.Prelude.{◌≡◌, ◌-◌, ◌≤◌, ◌^◌};
+// What stands at the front of a hall's bytes. Offsets in a geometry's four records are counted from its first one, here, in the checks, in the edits and in the
+// crate of images: they are document 01's, and stand as numbers beside what is read or put there, where a name would say it twice.
+ghost use Rattle.std.specs.Prelude.{◌≡◌, ◌+◌, ◌*◌, ◌-◌, ◌/◌, ◌≤◌, ◌<◌, ◌^◌};
 ghost use Rattle.halls.specs.Fronts.{Shaped, content_at, entries_at};
 ghost use Rattle.halls.specs.Inner.Judging.{has_record, has_geometry};
 ghost use Rattle.halls.specs.Inner.Kinds.{kind_number};
-ghost use Rattle.halls.specs.Inner.Walk.{front_of};
+ghost use Rattle.halls.specs.Inner.Walk.{front_of, model_units};
 
 use crate::format::kind::RecordKind;
 use sections::{ends_inside, u16_le, u32_le};
@@ -13,6 +14,30 @@ use sections::{ends_inside, u16_le, u32_le};
 pub struct GeometryShape {
     pub content: usize,
     pub held: usize,
+}
+
+impl GeometryShape {
+    // Its part of the image in units of 16 bytes: blocks and declaration, vertex bytes, two-byte indices.
+    pub fn units(self) -> usize
+        ensures { result ≡ 25 + (self.content + 15) / 16 + (2 * self.held + 15) / 16 }
+    {
+        25 + self.content.div_ceil(16) + self.held.div_ceil(8)
+    }
+
+    // The bytes of its four records. For this crate alone: what another crate calls asks nothing of its caller.
+    pub(crate) fn record_bytes(self) -> usize
+        requires { 65 + self.content + 4 * self.held < 2 ^ 64 }
+        ensures { result ≡ 65 + self.content + 4 * self.held }
+    {
+        65 + self.content + 4 * self.held
+    }
+}
+
+// The part of the image of a model's record with so many entries, in units of 16 bytes: its block, and for each entry a pointer and a two-byte number.
+pub fn model_units(entries: usize) -> usize
+    ensures { result ≡ model_units entries }
+{
+    3 + entries.div_ceil(2) + entries.div_ceil(8)
 }
 
 // A model's record with the entries of its mapping, or a geometry's four records.
@@ -59,7 +84,7 @@ pub fn shape_of(front: &[u8]) -> GeometryShape
 fn content_of(front: &[u8]) -> usize
     ensures { (result ≡ content_at front.now) × (result ≤ 2 ^ 48) }
 {
-    u32_le(front, 51) as usize * u16_le(front, 49) as usize
+    u32_le(front, 51) as usize * usize::from(u16_le(front, 49))
 }
 
 // A geometry's four records stand at the front, one behind the other.

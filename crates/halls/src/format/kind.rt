@@ -18,7 +18,7 @@ impl RecordKind {
         self as u16
     }
 
-    // None of a number that no kind has: such records are passed over.
+    // None of a number that no kind has: such records are passed over, and `TryFrom` would have an error that says nothing.
     pub fn of(number: u16) -> Option<RecordKind>
         ensures { MatchOption result ((kind : RecordKind) → kind_number kind ≢ number) (λ kind. kind_number kind ≡ number) }
     {

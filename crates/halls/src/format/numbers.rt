@@ -1,13 +1,13 @@
-// The numbers that its record says of a model, and of a geometry.
+// The fields of records of kind 1, a model, and of kind 2, a geometry.
 
-// Kind 1's two.
+// Kind 1's, without the mapping.
 #[derive(Clone, Copy)]
 pub struct ModelNumbers {
     pub binding: u32,
     pub mask: u16,
 }
 
-// Kind 2's five.
+// Kind 2's.
 #[derive(Clone, Copy)]
 pub struct GeometryNumbers {
     pub shader: u16,

@@ -1,22 +1,17 @@
-// The records of the list, as bytes. `at` is where a record begins; the first pass has counted the room.
+// The records of the list, as bytes. `at` is where a record begins; each caller has counted the room.
 ghost use Rattle.std.specs.Prelude.{◌≡◌, ◌++◌, ◌<◌, ◌≤◌, ◌+◌, ◌*◌, ◌/◌, ◌^◌, length};
 ghost use Rattle.sections.specs.Edit.{overwrite};
 ghost use Rattle.sections.specs.Le.{bytes};
-ghost use Rattle.vertices.specs.Buffer.{layout_number};
 ghost use Rattle.vertices.specs.Runs.{numbers, run};
 ghost use Rattle.halls.specs.List.{record_bytes, model_numbers, geometry_record, declaration_record, vertices_record, indices_record};
 ghost use Rattle.halls.specs.Inner.Kinds.{kind_number};
-ghost use Rattle.halls.specs.Inner.NewIndices.{indices_of};
-ghost use Rattle.halls.specs.Inner.View.{numbers_seen};
+ghost use Rattle.halls.specs.Inner.View.{four_records, numbers_seen, vertices_in};
 
-use crate::check::words::put_words;
 use crate::format::kind::RecordKind;
 use crate::format::numbers::{GeometryNumbers, ModelNumbers};
-use crate::read::parts::StoredIndices;
-use crate::read::view::IndexWidth;
-use crate::read::widen::{put_copied, put_widened};
+use crate::format::record_indices::RecordIndices;
 use sections::{copy_into, put_u8_le, put_u16_le, put_u32_le};
-use vertices::{VertexBuffer, VertexDeclaration, write_declaration};
+use vertices::{VertexBufferLayout, VertexDeclaration, write_declaration};
 
 // Kind 1: 12 bytes and the mapping.
 pub fn put_model(out: &mut [u8], at: usize, model: ModelNumbers, mapping: &[u8])
@@ -59,75 +54,60 @@ pub fn put_declaration(out: &mut [u8], at: usize, declaration: VertexDeclaration
     write_declaration(out, at + 6, declaration);
 }
 
-// Kind 4: 13 bytes and the vertices as they were found.
-pub fn put_vertices(out: &mut [u8], at: usize, buffer: VertexBuffer, content: &[u8])
-    requires { (at + (13 + length content.now) ≤ length out.old) × (length content.now < 2 ^ 31) }
-    ensures { out.new ≡ overwrite out.old at (vertices_record (record { layout = layout_number buffer.layout; stride = buffer.vertex_stride; count = buffer.vertex_count; content = content.now })) }
-{
-    let layout = buffer.layout;
-    put_vertex_bytes(
-        out,
-        at,
-        layout.number(),
-        buffer.vertex_stride,
-        buffer.vertex_count,
-        content,
-    );
+// A geometry's vertices, to be written as they were found.
+#[derive(Clone, Copy)]
+pub struct VertexBytes<'a> {
+    pub layout: VertexBufferLayout,
+    pub stride: u16,
+    pub count: u32,
+    pub content: &'a [u8],
 }
 
-pub fn put_vertex_bytes(
-    out: &mut [u8],
-    at: usize,
-    layout: u8,
-    stride: u16,
-    count: u32,
-    content: &[u8],
-)
-    requires { (at + (13 + length content.now) ≤ length out.old) × (length content.now < 2 ^ 31) }
-    ensures { out.new ≡ overwrite out.old at (vertices_record (record { layout = layout; stride = stride; count = count; content = content.now })) }
+// Kind 4: 13 bytes and the vertices.
+pub fn put_vertices(out: &mut [u8], at: usize, vertices: VertexBytes)
+    requires { (at + (13 + length vertices.content.now) ≤ length out.old) × (length vertices.content.now < 2 ^ 31) }
+    ensures { out.new ≡ overwrite out.old at (vertices_record (vertices_in vertices.entry)) }
 {
+    let content = vertices.content;
     put_head(out, at, (7 + content.len()) as u32, RecordKind::Vertices);
-    put_u8_le(out, at + 6, layout);
-    put_u16_le(out, at + 7, stride);
-    put_u32_le(out, at + 9, count);
+    put_u8_le(out, at + 6, vertices.layout.number());
+    put_u16_le(out, at + 7, vertices.stride);
+    put_u32_le(out, at + 9, vertices.count);
     copy_into(out, at + 13, content);
 }
 
 // Kind 5: 10 bytes and the indices, four bytes each.
-pub fn put_indices(out: &mut [u8], at: usize, indices: &StoredIndices)
-    requires { at + (10 + 4 * length indices.now.items) ≤ length out.old }
-    ensures { out.new ≡ overwrite out.old at (indices_record indices.now) }
+pub fn put_indices<I: RecordIndices>(out: &mut [u8], at: usize, indices: &I)
+    requires { (at + (10 + 4 * length (I.indices indices.now).items) ≤ length out.old) × (4 + 4 * length (I.indices indices.now).items < 2 ^ 32) }
+    ensures { out.new ≡ overwrite out.old at (indices_record (I.indices indices.now)) }
 {
-    put_head(out, at, 4 + 4 * indices.held(), RecordKind::Indices);
-    put_u32_le(out, at + 6, indices.count());
-    put_items(out, at + 10, indices);
+    let counts = indices.counts();
+    put_head(out, at, 4 + 4 * counts.held, RecordKind::Indices);
+    put_u32_le(out, at + 6, counts.count);
+    indices.put_items(out, at + 10);
 }
 
-// The same of indices that a caller lends.
-pub fn put_lent_indices(out: &mut [u8], at: usize, indices: &[u32])
-    requires { (at + (10 + 4 * length indices.now) ≤ length out.old) × (4 + 4 * length indices.now < 2 ^ 32) }
-    ensures { out.new ≡ overwrite out.old at (indices_record (indices_of indices.now)) }
+// The four records of a geometry that has all of them.
+pub fn put_full<I: RecordIndices>(
+    out: &mut [u8],
+    at: usize,
+    numbers: GeometryNumbers,
+    declaration: VertexDeclaration,
+    vertices: VertexBytes,
+    indices: &I,
+)
+    requires room { at + (65 + length vertices.content.now + 4 * length (I.indices indices.now).items) ≤ length out.old }
+    requires few { (length vertices.content.now < 2 ^ 31) × (4 + 4 * length (I.indices indices.now).items < 2 ^ 32) }
+    ensures { out.new ≡ overwrite out.old at (four_records numbers declaration (vertices_in vertices.entry) (I.indices indices.now)) }
 {
-    let count = indices.len() as u32;
-    put_head(out, at, 4 + 4 * count, RecordKind::Indices);
-    put_u32_le(out, at + 6, count);
-    put_words(out, at + 10, indices);
+    let behind = at + 55 + vertices.content.len();
+    put_geometry(out, at, numbers);
+    put_declaration(out, at + 20, declaration);
+    put_vertices(out, at + 42, vertices);
+    put_indices(out, behind, indices);
 }
 
-fn put_items(out: &mut [u8], at: usize, indices: &StoredIndices)
-    requires { at + length indices.now.items * 4 ≤ length out.old }
-    ensures { out.new ≡ overwrite out.old at (run 4 indices.now.items) }
-{
-    let n = indices.view.count as usize;
-    if let Some(items) = indices.view.items {
-        match items.width {
-            IndexWidth::Two => put_widened(out, at, indices.bytes, n),
-            IndexWidth::Four => put_copied(out, at, indices.bytes, n),
-        }
-    }
-}
-
-pub fn put_head(out: &mut [u8], at: usize, body: u32, kind: RecordKind)
+fn put_head(out: &mut [u8], at: usize, body: u32, kind: RecordKind)
     requires { at + 6 ≤ length out.old }
     ensures { out.new ≡ overwrite out.old at (bytes 4 body ++ bytes 2 (kind_number kind)) }
 {

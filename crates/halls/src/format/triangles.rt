@@ -1,5 +1,5 @@
 // The triangles of a hall list.
-ghost use Rattle.std.specs.Prelude.{◌≡◌, ◌+◌, ◌-◌, ◌/◌, ◌^◌, min};
+ghost use Rattle.std.specs.Prelude.{◌≡◌, ◌-◌, ◌/◌, ◌^◌, min};
 ghost use Rattle.halls.specs.Records.{records};
 ghost use Rattle.halls.specs.Triangles.{added, awaits, held_count, triangles_in};
 
@@ -23,16 +23,14 @@ pub fn triangle_count(list: &[u8]) -> u64
 }
 
 // What a record adds. `awaited`: the last geometry stored no index count, and its indices have not come yet.
+#[tactic(auto, unfolding(crate::specs::Triangles::added))]
 fn record_triangles(awaited: bool, kind: u16, body: &[u8]) -> u64
     ensures { result ≡ added awaited (record { kind = kind; body = body.now }) }
 {
-    let kind = RecordKind::of(kind);
-    if kind == Some(RecordKind::Geometry) {
-        u64::from(u32_le(body, 2) / 3)
-    } else if kind == Some(RecordKind::Indices) && awaited {
-        held_triangles(body)
-    } else {
-        0
+    match RecordKind::of(kind) {
+        Some(RecordKind::Geometry) => u64::from(u32_le(body, 2) / 3),
+        Some(RecordKind::Indices) if awaited => held_triangles(body),
+        _ => 0,
     }
 }
 
@@ -44,15 +42,13 @@ fn held_triangles(body: &[u8]) -> u64
 }
 
 // Whether indices are awaited behind a record.
+#[tactic(auto, unfolding(crate::specs::Triangles::awaits))]
 fn awaits_indices(awaited: bool, kind: u16, body: &[u8]) -> bool
     ensures { result ≡ awaits awaited (record { kind = kind; body = body.now }) }
 {
-    let kind = RecordKind::of(kind);
-    if kind == Some(RecordKind::Geometry) {
-        u32_le(body, 2) == 0
-    } else if kind == Some(RecordKind::Indices) {
-        false
-    } else {
-        awaited
+    match RecordKind::of(kind) {
+        Some(RecordKind::Geometry) => u32_le(body, 2) == 0,
+        Some(RecordKind::Indices) => false,
+        _ => awaited,
     }
 }

@@ -7,7 +7,8 @@ ghost use Rattle.halls.specs.Inner.Spans.{Spans, spans_at};
 use sections::{u16_le, u32_le};
 use std::marker::Model;
 
-// A record's kind, where it begins, and where its body begins and ends.
+// A record's kind, where it begins, and where its body begins and ends. The kind is the number that stands there: with an `Option<RecordKind>` in its place
+// all was proved, but code two lines shorter took 29 lines more of definitions and laws.
 #[derive(Clone, Copy)]
 pub struct RecordSpan {
     pub kind: u16,

@@ -37,12 +37,10 @@ impl<'a> Iterator for Pointers<'a> {
     ghost remaining = { item_count (λ rest. rest) };
 
     fn next(&mut self) -> Option<u64> {
-        let left = self.left;
-        if left.len() < 8 {
-            return None;
-        }
-        self.left = &left[8..];
-        Some(u64_le(left, 0))
+        let (first, left) = self.left.split_first_chunk::<8>()?;
+        self.left = left;
+        // Not by `u64::from_le_bytes`: that the bytes are below 256, which its proof asks for, the check does not know here.
+        Some(u64_le(first, 0))
     }
 }
 

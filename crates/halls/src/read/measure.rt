@@ -1,21 +1,63 @@
-// The first pass of the hall list call: it refuses, or says how many bytes the list has. Nothing is written before it has ended.
-// Its two loops refuse where those that judge and write go on, so they are over pointers, not over what resolves.
-ghost use Rattle.std.specs.Prelude.{◌≡◌, ◌<◌, ◌≤◌, ◌+◌, ◌*◌, ◌^◌, length, IfOk, IfSome};
+// The first pass of the hall list call and of take in: it refuses, or says how many bytes the list has. Nothing is written before it has ended.
+// Its two loops refuse where those that judge and write go on, so they are over pointers, not over what resolves. They stay two: what a turn refuses and adds
+// differs, and one loop over a trait of it is longer.
+ghost use Rattle.std.specs.Prelude.{◌≡◌, ◌<◌, ◌≤◌, ◌+◌, ◌*◌, ◌^◌, length, IfOk, IfSome, MatchResult};
 ghost use Rattle.halls.specs.Reading.{read_models};
+ghost use Rattle.halls.specs.Inner.Measured.{ListMeasured, RefusedAs, header_or_empty, list_read};
 ghost use Rattle.halls.specs.Inner.Measure.{length_at, measured_geometries, measured_model};
 ghost use Rattle.halls.specs.Inner.Measure.{measured_models, model_at, read_entries};
 
 use crate::answer::Refusal;
+use crate::check::pass::MOST_GEOMETRIES;
 use crate::read::entries::{Entries, Pointers};
+use crate::read::limited::Limited;
+use crate::read::pointers::list_bytes;
 use crate::read::stored::ModelLists;
 use crate::read::view::{geometry_view, view_length};
-use sections::ResReader;
+use sections::{PointerListHeader, ResReader};
 
 // The bytes of what was read, and how many geometries it has.
-#[derive(Clone, Copy)]
+#[derive(Clone, Copy, Default)]
 pub struct Measured {
     pub length: u64,
     pub count: usize,
+}
+
+// A list of which the first pass refuses nothing: the pointers to its models, and how many bytes their records have.
+#[derive(Clone, Copy)]
+pub struct MeasuredList<'b, 'a> {
+    pub limited: Limited<'b, 'a>,
+    pub pointers: &'a [u8],
+    pub length: u64,
+}
+
+// The list behind the header at `va`, by checks 1 to 6.
+pub fn measure_list<'b, 'a>(
+    reader: &'b ResReader<'a>,
+    va: u64,
+) -> Result<MeasuredList<'b, 'a>, Refusal>
+    ensures { MatchResult result (ListMeasured reader.now va) (RefusedAs (list_read reader.now va)) }
+{
+    if !reader.within_limit() {
+        return Err(Refusal::by(1));
+    }
+    let limited = Limited { reader };
+    let header = header_at(reader, va);
+    let count = u32::from(header.len());
+    let pointers = list_bytes(reader, 8, count, header.pointer).ok_or(Refusal::by(2))?;
+    let measured = measure_models(reader, Pointers::new(pointers))?;
+    Ok(MeasuredList {
+        limited,
+        pointers,
+        length: measured.length,
+    })
+}
+
+// The header at an address; where it does not resolve, that of an empty list.
+fn header_at(reader: &ResReader, va: u64) -> PointerListHeader
+    ensures { result ≡ header_or_empty reader.now va }
+{
+    reader.read_pointer_list_header(va).unwrap_or_default()
 }
 
 // The geometries behind some pointers, of which `before` came earlier in the walk.
@@ -28,43 +70,35 @@ fn measure_geometries(
     ensures value { result ≡ measured_geometries (read_entries reader.now before entries.entry) }
     ensures bound { IfOk result (λ m. (m.«length» ≤ m.count * 2 ^ 49) × (before + m.count ≤ 16384)) }
 {
-    let mut total: u64 = 0;
-    let mut count: usize = 0;
+    let mut total = Measured::default();
     for entry in entries {
         if entry.pointer == 0 {
             continue;
         }
-        if 16384 <= before + count {
+        if MOST_GEOMETRIES <= before + total.count {
             return Err(Refusal::by(5));
         }
-        total += length_at(reader, entry.shader, entry.pointer).ok_or(Refusal::by(6))?;
-        count += 1;
+        total.length += length_at(reader, entry.shader, entry.pointer).ok_or(Refusal::by(6))?;
+        total.count += 1;
     }
-    Ok(Measured {
-        length: total,
-        count,
-    })
+    Ok(total)
 }
 
 // The models behind some pointers, from the first of a walk on.
-pub fn measure_models(reader: &ResReader, pointers: Pointers) -> Result<Measured, Refusal>
+fn measure_models(reader: &ResReader, pointers: Pointers) -> Result<Measured, Refusal>
     requires { length pointers < 2 ^ 17 }
     ensures { result ≡ measured_models (read_models reader.now 0 pointers.entry) }
 {
-    let mut total: u64 = 0;
-    let mut count: usize = 0;
+    let mut total = Measured::default();
     for pointer in pointers {
         if pointer == 0 {
             continue;
         }
-        let model = measure_model(reader, pointer, count)?;
-        total += model.length;
-        count += model.count;
+        let model = measure_model(reader, pointer, total.count)?;
+        total.length += model.length;
+        total.count += model.count;
     }
-    Ok(Measured {
-        length: total,
-        count,
-    })
+    Ok(total)
 }
 
 // The model behind a pointer.

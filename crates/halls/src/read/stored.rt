@@ -1,9 +1,8 @@
 // Geometries and models as they lie in the sections, seen as what is read of them, and those of a list, one after another.
-ghost use Rattle.std.specs.Prelude.{◌≡◌, ◌<◌, ◌≤◌, ◌*◌, ◌/◌, ◌^◌, length};
+ghost use Rattle.std.specs.Prelude.{◌≡◌, ◌<◌, ◌*◌, ◌/◌, ◌^◌, length};
 ghost use Rattle.std.specs.Option.{option_copied};
 ghost use Rattle.std.specs.Iterator.{YieldsFirst, item_count};
 ghost use Rattle.halls.specs.Blocks.{model_block};
-ghost use Rattle.halls.specs.Reading.{or_empty};
 ghost use Rattle.halls.specs.Inner.Measure.{list_bytes, whole_numbers};
 ghost use Rattle.halls.specs.Inner.Taking.{as_halls};
 ghost use Rattle.halls.specs.Inner.View.{ListsOf, models_at, geometries_behind};
@@ -12,7 +11,7 @@ use crate::format::numbers::ModelNumbers;
 use crate::read::entries::{Entries, Pointers};
 use crate::read::limited::Limited;
 use crate::read::parts::{StoredIndices, WholeGeometry};
-use crate::read::pointers::{list_bytes, list_bytes_or_empty};
+use crate::read::pointers::list_bytes;
 use crate::read::view::{GeometryView, geometry_view, indices_at, vertices_at};
 use sections::{ResReader, u16_le, u32_le, u64_le};
 use std::marker::Model;
@@ -96,7 +95,8 @@ impl<'b, 'a> HeldGeometry<'b, 'a> {
     }
 }
 
-// The geometries of a list whose blocks resolve.
+// The geometries of a list whose blocks resolve. Geometries and models stay two iterators: as one over a trait of what lies behind an entry the proof did not
+// close. A bound such as `T: Behind<'b, 'a>` names two lifetimes, and the check does not cover a call by one.
 #[derive(Drop)]
 pub struct Geometries<'b, 'a> {
     limited: Limited<'b, 'a>,
@@ -147,10 +147,10 @@ impl<'a> ModelLists<'a> {
     pub fn of(reader: &ResReader<'a>, raw: &[u8]) -> Self
         ensures { ListsOf reader.now (model_block raw.now) (option_copied result.pointers) result.mapping.now }
     {
-        let count = u16_le(raw, 0x10) as u32;
+        let count = u32::from(u16_le(raw, 0x10));
         ModelLists {
             pointers: list_bytes(reader, 8, count, u64_le(raw, 0x08)),
-            mapping: list_bytes_or_empty(reader, 2, count, u64_le(raw, 0x20)),
+            mapping: list_bytes(reader, 2, count, u64_le(raw, 0x20)).unwrap_or(&[]),
         }
     }
 }
@@ -242,7 +242,7 @@ impl<'b, 'a> Iterator for Models<'b, 'a> {
 
     ghost remaining = { item_count (λ rest. rest) };
 
-    // A `while`, as that of the geometries.
+    // Not by `find_map`, for the reason given at the geometries.
     fn next(&mut self) -> Option<StoredModel<'b, 'a>> {
         while let Some(pointer) = self.pointers.next() {
             if let Some(raw) = self.limited.reader.resolve(pointer, 0x30) {

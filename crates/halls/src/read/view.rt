@@ -13,8 +13,8 @@ use vertices::{VertexBuffer, VertexDeclaration, parse_vertex_buffer_at};
 // How many bytes an index has.
 #[derive(Clone, Copy, Debug, PartialEq, Eq)]
 pub enum IndexWidth {
-    Two,
-    Four,
+    Two = 2,
+    Four = 4,
 }
 
 // Where indices lie, and how wide they are.
@@ -39,7 +39,7 @@ pub struct GeometryView {
 }
 
 impl IndexWidth {
-    // Of a stored size, 2 or 4.
+    // Of a stored size, 2 or 4. An Option, as for a record's kind: of another number there is no more to say.
     pub fn of(size: u16) -> Option<IndexWidth>
         ensures { result ≡ width_of size }
     {
@@ -53,10 +53,7 @@ impl IndexWidth {
     pub fn bytes(self) -> usize
         ensures { result ≡ index_bytes self }
     {
-        match self {
-            IndexWidth::Two => 2,
-            IndexWidth::Four => 4,
-        }
+        self as usize
     }
 }
 
@@ -70,7 +67,7 @@ pub fn geometry_view(reader: &ResReader, raw: &[u8], shader: u16) -> GeometryVie
         reader,
         u64_le(raw, 0x18),
         u64_le(raw, 0x78),
-        stored as u32,
+        u32::from(stored),
         stride,
     );
     GeometryView {
@@ -93,7 +90,7 @@ fn vertex_count(stored: u16, buffer: Option<VertexBuffer>) -> u16
     if stored != 0 {
         return stored;
     }
-    buffer.map_or(0, |b| b.vertex_count.min(65535) as u16)
+    buffer.map_or(0, |b| u16::try_from(b.vertex_count).unwrap_or(u16::MAX))
 }
 
 fn index_view(reader: &ResReader, va: u64) -> Option<IndexView>
@@ -137,21 +134,19 @@ fn view_at(reader: &ResReader, width: IndexWidth, count: u32, pointer: u64) -> O
 pub fn indices_at<'a>(reader: &ResReader<'a>, view: IndexView) -> &'a [u8]
     ensures { result.now ≡ bytes_seen reader.now view }
 {
-    match view.items {
-        Some(items) => {
-            let size = view.count as usize * items.width.bytes();
-            reader.bytes_of(items.place, size).unwrap_or(&[])
-        }
-        None => &[],
-    }
+    // Not by `and_then`: of a closure that captures a reader the check infers no result, and the proof did not close.
+    let Some(items) = view.items else {
+        return &[];
+    };
+    let size = view.count as usize * items.width.bytes();
+    reader.bytes_of(items.place, size).unwrap_or(&[])
 }
 
 // The bytes of a buffer's vertices.
 pub fn vertices_at<'a>(reader: &ResReader<'a>, buffer: VertexBuffer) -> &'a [u8]
     ensures { result.now ≡ content_at reader.now buffer }
 {
-    let size = buffer.vertex_count as usize * buffer.vertex_stride as usize;
-    reader.bytes_of(buffer.data, size).unwrap_or(&[])
+    reader.bytes_of(buffer.data, buffer.size()).unwrap_or(&[])
 }
 
 // The bytes of a geometry's records.
@@ -165,8 +160,7 @@ fn buffer_length(buffer: Option<VertexBuffer>) -> u64
     ensures { (result ≡ buffer_length buffer) × (result < 2 ^ 48) }
 {
     buffer.map_or(0, |b| {
-        let content = b.vertex_count as u64 * b.vertex_stride as u64;
-        declaration_length(b.declaration) + (13 + content)
+        declaration_length(b.declaration) + (13 + b.size() as u64)
     })
 }
 

@@ -1,5 +1,8 @@
-// The second pass of the hall list call: it writes what the first has counted. The loops over models and over geometries stay apart:
-// a trait of the two steps is longer than a loop.
+// The second pass of the hall list call: it writes what the first has counted. Its loops are no `fold`: after one nothing is known of the buffer that its
+// closure borrowed and changed, and the proof did not close. They stay apart: one function over an iterator and a step would have to say which bytes the step
+// writes of an item, and that before each item there is room, by a trait with a type for each step: that is longer than the loops.
+//
+// A match that writes is no `map_or`: tried where a taken geometry is written, its closure captures `out`, and neither the room nor the result was proved.
 ghost use Rattle.std.specs.Prelude.{◌≡◌, ◌≤◌, ◌+◌, length};
 ghost use Rattle.sections.specs.Edit.{overwrite};
 ghost use Rattle.halls.specs.List.{optional, indices_record, write_geometry, write_geometries, write_model, write};
@@ -7,7 +10,9 @@ ghost use Rattle.halls.specs.Inner.Small.{Wrote};
 ghost use Rattle.halls.specs.Inner.View.{BufferHeld, stored_record, buffer_records};
 ghost use Rattle.halls.specs.Inner.View.{declaration_length, buffer_length};
 
-use crate::format::record::{put_declaration, put_geometry, put_indices, put_model, put_vertices};
+use crate::format::record::{
+    VertexBytes, put_declaration, put_geometry, put_indices, put_model, put_vertices,
+};
 use crate::read::limited::Limited;
 use crate::read::parts::StoredIndices;
 use crate::read::stored::{Geometries, HeldGeometry, Models, StoredModel};
@@ -66,7 +71,13 @@ fn write_buffer(out: &mut [u8], at: usize, limited: &Limited, buffer: Option<Ver
         Some(b) => {
             let next = write_stored(out, at, b.declaration);
             let content = vertices_at(limited.reader, b);
-            put_vertices(out, next, b, content);
+            let vertices = VertexBytes {
+                layout: b.layout,
+                stride: b.vertex_stride,
+                count: b.vertex_count,
+                content,
+            };
+            put_vertices(out, next, vertices);
             next + (13 + content.len())
         }
         None => at,
@@ -92,8 +103,9 @@ fn write_indices(out: &mut [u8], at: usize, indices: Option<StoredIndices>) -> u
 {
     match indices {
         Some(indices) => {
+            let held = indices.held() as usize;
             put_indices(out, at, &indices);
-            at + (10 + 4 * indices.held() as usize)
+            at + (10 + 4 * held)
         }
         None => at,
     }

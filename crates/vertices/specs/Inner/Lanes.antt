@@ -132,18 +132,18 @@ word_at p s stride q = lane_bytes (lane_of p (q % 21)) s (q / 21 * stride)
 -- the strip lies in out
 pub record StripFits (strip : Strip) (out : List ℕ) : Type 0 where
   pub word : strip.word < 21
-  pub order : strip.first ≤ strip.end
-  pub short : strip.end < 4294967296
-  pub room : 84 * strip.end ≤ length out
+  pub order : strip.block.first ≤ strip.block.end
+  pub short : strip.block.end < 4294967296
+  pub room : 84 * strip.block.end ≤ length out
 
 -- each of its words is `word` already, where this is not the first block
 abbrev pub Prefilled : ℕ → Strip → List ℕ → Type 0
-Prefilled word strip out = 0 < strip.first → (i : ℕ) → strip.first ≤ i → i < strip.end → part out (i * 84 + 4 * strip.word) 4 ≡ bytes 4 word
+Prefilled word strip out = 0 < strip.block.first → (i : ℕ) → strip.block.first ≤ i → i < strip.block.end → part out (i * 84 + 4 * strip.word) 4 ≡ bytes 4 word
 
 -- besides, what its lane reads lies in s, and a constant stands already
 pub record LaneReady (lane : Lane) (stride : ℕ) (strip : Strip) (s out : List ℕ) : Type 0 where
   pub fits : StripFits strip out
-  pub reads : (i : ℕ) → i < strip.end → Reads lane (i * stride) (length s)
+  pub reads : (i : ℕ) → i < strip.block.end → Reads lane (i * stride) (length s)
   pub prefilled : (word : ℕ) → lane ≡ Constant word → Prefilled word strip out
 
 -- b with the word j of the vertices from `first` to `end`, each what g gives, is t: another word, and one that was so already, is as it was, and so is
@@ -156,7 +156,7 @@ pub record WordsWritten (g : ℕ → List ℕ) (first end j : ℕ) (b t : List �
 
 -- b with a strip of a lane is t
 abbrev pub LaneWritten : Lane → ℕ → List ℕ → Strip → List ℕ → List ℕ → Type 0
-LaneWritten lane stride s strip b t = WordsWritten (λ (i : ℕ). lane_bytes lane s (i * stride)) strip.first strip.end strip.word b t
+LaneWritten lane stride s strip b t = WordsWritten (λ (i : ℕ). lane_bytes lane s (i * stride)) strip.block.first strip.block.end strip.word b t
 
 -- ---- a block of vertices, lane by lane
 
@@ -166,7 +166,7 @@ pub record BlockReady (p : UnifiedPlan) (stride first end : ℕ) (s out : List �
   pub short : end < 4294967296
   pub room : 84 * end ≤ length out
   pub reads : (i : ℕ) → i < end → Readable p (i * stride) (length s)
-  pub prefilled : (j word : ℕ) → j < 21 → lane_of p j ≡ Constant word → Prefilled word (record { first = first; end = end; word = j }) out
+  pub prefilled : (j word : ℕ) → j < 21 → lane_of p j ≡ Constant word → Prefilled word (record { block = record { first = first; end = end }; word = j }) out
 
 -- b with the first j words of the vertices from `first` to `end` is t: a word of b that was right is so still, and what stands behind is as it was
 pub record BlockWritten (p : UnifiedPlan) (s : List ℕ) (stride first end j : ℕ) (b t : List ℕ) : Type 0 where

@@ -6,5 +6,5 @@ use Rattle.sections.proofs.EditLaws.{overwrite-none}
 use Rattle.exports.proofs.ToldLaws.{fitting-yes}
 use Rattle.exports.proofs.buffers.write_found.Goals as goal
 
-pub returns-in-None : goal.returns-in-None
-returns-in-None c = rw c.in-None.is (fitting-yes [] (omega arith) (sym (overwrite-none _ 0)) refl)
+pub returns-in_default : goal.returns-in_default
+returns-in_default c = rw c.in_default.is (fitting-yes [] (omega arith) (sym (overwrite-none _ 0)) refl)

@@ -13,7 +13,7 @@ use Rattle.images.proofs.geometry.put_head.Goals as goal
 pub returns : goal.returns
 unfolding part
 returns c =
-    let long = slice-length c.args.front.now 26 42 (omega arith) c.requires.3 in
+    let long = slice-length c.args.front.now 26 42 (omega arith) c.requires.2 in
     let vertices = VertexBlock-length (vertex_numbers c.args.at c.args.front.now) in
-    let two = overwrite-behind _ _ _ 0xA0 _ c.put_geometry_numbers.ensures (Block-filled-length _) c.put_vertex_numbers.ensures (omega (arith, vertices, c.requires.0)) in
-    Edited-behind _ _ _ 0x120 _ two (head-length _ _) refl c.copy_into.ensures (omega (arith, long, c.requires.0)) ∙ ap (overwrite _ _) (head-joined c.args.at c.args.index_block c.args.front.now)
+    let two = overwrite-behind _ _ _ 0xA0 _ c.put_geometry_numbers.ensures (Block-filled-length _) c.put_vertex_numbers.ensures (omega (arith, vertices, c.requires.0.fits)) in
+    Edited-behind _ _ _ 0x120 _ two (head-length _ _) refl c.copy_into.ensures (omega (arith, long, c.requires.0.fits)) ∙ ap (overwrite _ _) (head-joined c.args.at c.args.index_block c.args.front.now)

@@ -1,9 +1,11 @@
--- The low byte and then the high one are the two bytes of v.
-use Rattle.std.proofs.Common.{◌≡◌, ◌/◌, ◌%◌, arith}
-use Rattle.sections.proofs.LeLaws.{two_stores}
+-- One piece of two bytes.
+use Rattle.std.proofs.Common.{◌≡◌, ◌∙◌}
+use Rattle.sections.specs.Le.{bytes}
+use Rattle.sections.proofs.LeLaws.{to_le-is, length-bytes}
+use Rattle.sections.proofs.EditLaws.{overwrite-slice}
 use Rattle.images.proofs.indices.set_u16.Goals as goal
 
 pub returns : goal.returns
 returns c =
-    let high : c.args.v / 256 % 256 ≡ c.args.v / 256 = omega (arith, c.ranges.v.fits) in
-    rw c.to_le_bytes.ensures (rw high (two_stores _ _ _ c.requires (omega (arith, c.ranges.v.fits))))
+    let e : c.to_le_bytes.result ≡ bytes 2 c.args.v = c.to_le_bytes.ensures ∙ to_le-is 2 c.args.v in
+    rw (c.copy_from_slice.ensures.after, e) (overwrite-slice c.args.b.now c.args.off 2 (bytes 2 c.args.v) (length-bytes 2 c.args.v))

@@ -4,8 +4,8 @@ use native.Mathlib.Omega.{arith}
 use Rattle.vertices.proofs.HalfEncode.{encoded-nan, encoded-over}
 use Rattle.vertices.proofs.halves.half_below_sign.Goals as goal
 
-pub returns-then-rest-gt2139095040 : goal.returns-then-rest-gt2139095040
-returns-then-rest-gt2139095040 c = sym (encoded-nan c.args.rest c.if-rest-gt2139095040.true)
+pub returns-then-rest-gt-INFINITY : goal.returns-then-rest-gt-INFINITY
+returns-then-rest-gt-INFINITY c = sym (encoded-nan c.args.rest c.if-rest-gt-INFINITY.true)
 
-pub returns-then-rest-ge1199570944 : goal.returns-then-rest-ge1199570944
-returns-then-rest-ge1199570944 c = sym (encoded-over c.args.rest c.if-rest-ge1199570944.true (omega arith))
+pub returns-then-rest-ge-INFINITE : goal.returns-then-rest-ge-INFINITE
+returns-then-rest-ge-INFINITE c = sym (encoded-over c.args.rest c.if-rest-ge-INFINITE.true (omega arith))

@@ -17,11 +17,11 @@ cut-size-requires c =
     let known : SignedByte c.args.bits c.or_zero.result = signed_byte_lem c.args.bits (omega arith) c.or_zero.result c.or_zero.ensures in
     rw c.at_most.ensures known.whole
 
-pub with_sign-requires : goal.with_sign-requires
-with_sign-requires c = let small : c.cut-size.result < 256 = rw c.cut-size.ensures (to_unsigned-lt 8 _) in omega arith
+pub twos_complement-requires : goal.twos_complement-requires
+twos_complement-requires c = let small : c.cut-size.result < 256 = rw c.cut-size.ensures (to_unsigned-lt 8 _) in omega arith
 
 pub returns : goal.returns
 unfolding of_bits
 returns c =
     let known : SignedByte c.args.bits c.or_zero.result = signed_byte_lem c.args.bits (omega arith) c.or_zero.result c.or_zero.ensures in
-    rw (c.with_sign.ensures, c.cut-size.ensures, c.at_most.ensures) known.byte
+    rw (c.twos_complement.ensures, c.cut-size.ensures, c.at_most.ensures) known.byte

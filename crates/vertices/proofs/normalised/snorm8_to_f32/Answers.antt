@@ -9,7 +9,7 @@ unfolding nan_bits
 float_from_bits-at_least_minus_one c = tt
 
 pub float_to_bits-result : goal.float_to_bits-result
-float_to_bits-result c = rw (c.at_least_minus_one.ensures, c.cast_signed-signed.ensures) (snorm-products c.args.value (omega arith)).number
+float_to_bits-result c = rw (c.at_least_minus_one.ensures, c.from-signed.ensures, c.cast_signed.ensures) (snorm-products c.args.value (omega arith)).number
 
 pub returns : goal.returns
-returns c = rw (c.at_least_minus_one.ensures, c.cast_signed-signed.ensures) (snorm-products c.args.value (omega arith)).bits
+returns c = rw (c.at_least_minus_one.ensures, c.from-signed.ensures, c.cast_signed.ensures) (snorm-products c.args.value (omega arith)).bits

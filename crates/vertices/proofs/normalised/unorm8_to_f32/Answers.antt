@@ -8,8 +8,8 @@ use Rattle.vertices.proofs.normalised.unorm8_to_f32.Goals as goal
 
 pub float_to_bits-result : goal.float_to_bits-result
 unfolding of_bits
-float_to_bits-result c = div_not_nan binary32 255 _ tt (of_int_not_nan binary32 (pos c.args.value))
+float_to_bits-result c = rw c.from.ensures (div_not_nan binary32 255 _ tt (of_int_not_nan binary32 (pos c.args.value)))
 
 pub returns : goal.returns
 unfolding unorm8_to_f32 to_bits of_bits
-returns c = refl
+returns c = rw c.from.ensures refl

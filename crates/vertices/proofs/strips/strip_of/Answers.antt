@@ -8,7 +8,7 @@ use Rattle.vertices.proofs.strips.strip_of.Goals as goal
 
 pub loop-i-preserved : goal.loop-i-preserved
 loop-i-preserved g c =
-    let word = lane_bytes c.args.lane c.args.«data».now (c.loop-i.i * c.args.stride) in
+    let word = lane_bytes c.args.lane c.args.vertices.«data».now (c.loop-i.i * c.args.vertices.stride) in
     let made = c.requires.words _ _ c.word.ensures in
     let written = rw (made, c.base_of.ensures.0) at c.put.ensures in
     let fits = c.requires.ready.fits in

@@ -4,4 +4,4 @@ use Rattle.vertices.specs.Inner.Lanes.{lane_bytes, WordsWritten}
 use Rattle.vertices.proofs.strips.strip_of.Given as goal
 
 abbrev pub invariant-loop-i : goal.invariant-loop-i
-invariant-loop-i g l = WordsWritten (λ (k : ℕ). lane_bytes l.fn.lane l.data (k * l.stride)) l.strip.first l.i l.strip.word l.initial.out l.out
+invariant-loop-i g l = WordsWritten (λ (k : ℕ). lane_bytes l.fn.lane l.vertices.«data».now (k * l.vertices.stride)) l.strip.block.first l.i l.strip.word l.initial.out l.out

@@ -22,8 +22,8 @@ low c =
 pub overflow_add-result : goal.overflow_add-result
 overflow_add-result c = omega (arith, low (goal.at.overflow_add-result c).In_ok-found)
 
-pub overflow_add-result-3 : goal.overflow_add-result-3
-overflow_add-result-3 c = omega (arith, low (goal.at.overflow_add-result-3 c).In_ok-found)
+pub overflow_add-result-2 : goal.overflow_add-result-2
+overflow_add-result-2 c = omega (arith, low (goal.at.overflow_add-result-2 c).In_ok-found)
 
 pub overflow_mul-result : goal.overflow_mul-result
 overflow_mul-result c = omega (arith, low (goal.at.overflow_mul-result c).In_ok-found)
@@ -31,4 +31,5 @@ overflow_mul-result c = omega (arith, low (goal.at.overflow_mul-result c).In_ok-
 pub returns : goal.returns
 returns c =
     let w = where-sound _ c.examine_first.ensures c.in_ok-found.was in
-    size-sound _ _ _ w.0 w.1
+    let pointers : c.div_ceil.result ≡ (c.in_ok-found.found.models + 1) / 2 = omega arith in
+    rw pointers (size-sound _ _ _ w.0 w.1)

@@ -1,7 +1,6 @@
 -- The walk over the first n bytes, where there are as many.
 use mathlib.Core.Path.{refl, subst}
-use native.Mathlib.Omega.{arith}
-use lib.ListN.{take, length-take}
+use lib.ListN.{take}
 use Rattle.halls.specs.Inner.Walk.{Found, WhereSound}
 use Rattle.halls.specs.Verdict.{Verdict}
 use Rattle.halls.proofs.check.ExaminedLaws.{verdict-outside, verdict-inside}
@@ -10,10 +9,7 @@ use Rattle.halls.proofs.check.check.survey_first.Goals as goal
 pub returns-then-hall-n : goal.returns-then-hall-n
 returns-then-hall-n c = rw c.by.ensures (verdict-outside _ _ c.if-hall-n.true, refl)
 
-pub slice_bounds-survey-end : goal.slice_bounds-survey-end
-slice_bounds-survey-end c = simp length-take (omega arith)
-
 pub returns : goal.returns
 returns c =
     let a = c.args in
-    subst (λ (v : Verdict). WhereSound v (Found (take a.n a.hall.now) a.model a.geometry) c.survey.result) (verdict-inside _ _ c.if-hall-n.false) c.survey.ensures
+    subst (λ (v : Verdict). WhereSound v (Found (take a.n a.hall.now) a.sought.model a.sought.index) c.survey.result) (verdict-inside _ _ c.if-hall-n.false) c.survey.ensures

@@ -11,6 +11,6 @@ returns-in_err-found c = c.from_residual.ensures ∙ no-model_found _ _ _ _ _ c.
 
 pub returns : goal.returns
 returns c =
-    let found = where-some _ _ c.survey_first.ensures (sym c.ok.ensures.value ∙ c.in_ok-found.was) in
+    let found = rw c.first_of.ensures at (where-some _ _ c.survey_first.ensures (sym c.ok.ensures.value ∙ c.in_ok-found.was)) in
     let sound = SoundBytes_lem _ _ (λ i. (c.type_inv.hall i).fits) found.0 in
     near_place _ _ sound.read.same-records found.1.nearest _ c.place_of.ensures ∙ sym (model_found-sound found.0 sound _)

@@ -8,10 +8,10 @@ use Rattle.halls.proofs.NearLaws.{model-near, without-model, geometry-absent, ge
 use Rattle.halls.proofs.check.find.geometry_at.Goals as goal
 use Rattle.halls.proofs.check.find.geometry_at.Goals.{In_ok-geometry}
 
-model : (c : In_ok-geometry) → let a = c.args in ModelHere a.list.now (models_in (records a.list.now)) a.model a.nearest.model
+model : (c : In_ok-geometry) → let a = c.args in ModelHere a.list.now (models_in (records a.list.now)) a.sought.model a.nearest.model
 model c = model-near _ _ c.requires.0 c.requires.1 c.in_ok-model.ensures.0
 
-geometry : (c : In_ok-geometry) → GeometryOf (model c) c.args.geometry c.in_ok-geometry.geometry
+geometry : (c : In_ok-geometry) → GeometryOf (model c) c.args.sought.index c.in_ok-geometry.geometry
 geometry c = geometry-stands c.requires.1 c.in_ok-model.ensures.0 (model c) refl c.seek.ensures c.in_ok-geometry.was
 
 pub returns-in_err-model : goal.returns-in_err-model
@@ -39,4 +39,4 @@ overflow_add-result c = omega (arith, (geometry (goal.at.overflow_add-result c).
 pub returns : goal.returns
 returns c =
     let k = (goal.at.returns c).In_ok-geometry in
-    rw c.in_ok-model.ensures.1 (geometry_found_lem (model k) c.args.geometry (geometry k) c.u32_le.ensures)
+    rw c.in_ok-model.ensures.1 (geometry_found_lem (model k) c.args.sought.index (geometry k) c.u32_le.ensures)

@@ -3,9 +3,9 @@ use Rattle.std.proofs.Common.{rules, tests}
 use Rattle.halls.specs.Inner.Walk.{limits_lowest}
 use Rattle.halls.proofs.check.pass.limits_lowest.Goals as goal
 
-pub returns-then-models-gt256 : goal.returns-then-models-gt256
+pub returns-then-summary-gt-MOST_MODELS : goal.returns-then-summary-gt-MOST_MODELS
 unfolding limits_lowest
-returns-then-models-gt256 c = search (rules, tests)
+returns-then-summary-gt-MOST_MODELS c = search (rules, tests)
 
 pub returns : goal.returns
 unfolding limits_lowest

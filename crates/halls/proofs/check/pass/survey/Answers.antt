@@ -4,9 +4,8 @@ use borrow.Author.Rules.{rules}
 use mathlib.Core.Path.{◌≡◌, refl, ◌∙◌, subst, sym}
 use Prim.Native.Nat.{◌≤◌, ◌<◌, min}
 use native.Mathlib.Omega.{arith}
-use lib.Dec.{eqb}
 use Rattle.halls.specs.Inner.Order.{failing}
-use Rattle.halls.specs.Inner.Walk.{Walked, Turned, limits_lowest}
+use Rattle.halls.specs.Inner.Walk.{is_empty, left_of, Walked, Turned, limits_lowest}
 use Rattle.halls.specs.declared.check.pass.Mark.{Mark}
 use Rattle.halls.specs.declared.check.pass.Tally.{Tally}
 use Rattle.halls.proofs.check.ExaminedLaws.{stopped, judged-fails, judged-sound, found-all}
@@ -17,10 +16,10 @@ use Rattle.halls.proofs.check.pass.survey.Goals as goal
 use Rattle.halls.proofs.check.pass.survey.Goals.{After-verdict_of}
 
 pub mark_of-nearest-requires : goal.mark_of-nearest-requires
-mark_of-nearest-requires c = subst (λ (t : Tally). t.first ≤ t.summary.geometries) (sym c.start-t.ensures) (omega arith)
+mark_of-nearest-requires c = subst (λ (t : Tally). t.first ≤ t.summary.geometries) (sym c.start-t.ensures.0) (omega arith)
 
 pub loop-t-init : goal.loop-t-init
-loop-t-init c = (subst (Walked _) (sym c.start-t.ensures) (walk_start _), Near-start _ _ _ c.start-t.ensures c.mark_of-nearest.ensures)
+loop-t-init c = (subst (Walked _) (sym c.start-t.ensures.0) (walk_start _ _ c.start-t.ensures.1), Near-start _ _ _ _ c.start-t.ensures.0 c.mark_of-nearest.ensures)
 
 pub next_turn-requires : goal.next_turn-requires
 next_turn-requires c = (c.loop-t.invariant.0, c.loop-t-test.true)
@@ -57,7 +56,7 @@ loop-t-preserved c =
     (turned.0, rw (c.nearer-nearest.ensures, c.mark_of.ensures) (Near-turn c.loop-t.invariant.1 turned.0.marked turned.1))
 
 -- the whole list passed
-lowest : (c : After-verdict_of) → c.min.result ≡ min (min c.loop-t.t.lowest (failing 12 (eqb c.loop-t.t.left 0))) (limits_lowest c.loop-t.t.summary.models c.loop-t.t.summary.geometries c.loop-t.t.summary.units)
+lowest : (c : After-verdict_of) → c.min.result ≡ min (min c.loop-t.t.lowest (failing 12 (is_empty (left_of c.loop-t.t)))) (limits_lowest c.loop-t.t.summary.models c.loop-t.t.summary.geometries c.loop-t.t.summary.units)
 lowest c = c.min.ensures ∙ rw (c.min-lowest.ensures, c.unanswered.ensures, c.limits_lowest.ensures)
 
 pub returns-in_err-verdict_of : goal.returns-in_err-verdict_of

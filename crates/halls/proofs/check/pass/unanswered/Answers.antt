@@ -1,9 +1,8 @@
--- The test is the definition's.
-use borrow.Author.Tests.{eq-eqb, ne_eqb}
+-- None is left where there are fewer than two bytes.
+use Rattle.std.proofs.Common.{sym, ap, ◌∙◌}
+use Rattle.halls.specs.Inner.Order.{failing}
+use Rattle.halls.proofs.check.WalkLaws.{none-left}
 use Rattle.halls.proofs.check.pass.unanswered.Goals as goal
 
-pub returns-then-left-eq0 : goal.returns-then-left-eq0
-returns-then-left-eq0 c = rw (eq-eqb _ 0 c.if-left-eq0.true)
-
 pub returns : goal.returns
-returns c = rw (ne_eqb _ 0 c.if-left-eq0.false)
+returns c = c.failing.ensures ∙ ap (failing 12) (sym (none-left c.args.left.now))

@@ -10,12 +10,6 @@ loop-i-init g c =
     let none : c.args.first - c.args.first ≡ 0 = omega arith in
     (rw none (counted_start _ _ refl), omega arith, omega arith)
 
-pub overflow_add-inside : goal.overflow_add-inside
-overflow_add-inside g c = omega (arith, c.loop-i.invariant.0.few)
-
-pub overflow_add-pairs : goal.overflow_add-pairs
-overflow_add-pairs g c = omega (arith, c.loop-i.invariant.0.fewer)
-
 pub loop-i-preserved : goal.loop-i-preserved
 loop-i-preserved g c =
     let one : c.loop-i.i + 1 - c.args.first ≡ c.loop-i.i - c.args.first + 1 = omega (arith, c.loop-i.invariant.1) in

@@ -53,8 +53,8 @@ triangles_lowest-requires-in-Four c = rw c.of-in-Four.ensures (fit c.indices.ins
 pub returns-in-Four : goal.returns-in-Four
 returns-in-Four c = scanned c.indices.inside.view c.indices.inside.bytes.now c.in-Some.items c.in-Some.is 3 (ap index_bytes c.in-Four.is) c.args.triangles c.indices.invariant c.indices.view_is c.requires _ (rw (c.from-limit.ensures, c.of-in-Four.ensures) at c.triangles_lowest-in-Four.ensures)
 
-pub returns-in-None : goal.returns-in-None
+pub returns-in_default : goal.returns-in_default
 unfolding indices_lowest_of every triangles_of
-returns-in-None c =
-    let none = sym (ap (λ (y : Indices). y.items) c.indices.view_is) ∙ no_items c.indices.inside.view c.indices.inside.bytes.now c.in-None.is in
+returns-in_default c =
+    let none = sym (ap (λ (y : Indices). y.items) c.indices.view_is) ∙ no_items c.indices.inside.view c.indices.inside.bytes.now c.in_default.is in
     rw none

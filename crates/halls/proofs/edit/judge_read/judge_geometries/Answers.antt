@@ -1,15 +1,22 @@
 -- Each turn adds the next geometry.
-use Rattle.halls.proofs.edit.TakingItems.{taking-start, taking_room, taking_turn, taking-end}
+use Rattle.std.proofs.Common.{rules, refl, List, ◌≡◌, ◌∙◌, ◌++◌, ap}
+use Rattle.std.proofs.lemmas.Fn.{serves_by, fold_over}
+use Rattle.std.proofs.lemmas.Iterator.Consumers.{YieldsList-from_first}
+use Rattle.std.specs.Iterator.{YieldsFirst}
+use Rattle.halls.specs.Inner.Taking.{geometry_taken, all_taken}
+use Rattle.halls.specs.List.{Geometry}
+use Rattle.halls.specs.declared.edit.judge_read.Taken.{Taken}
+use Rattle.halls.proofs.edit.TakingItems.{yielded, taking-start, taking_turn, taking_room}
 use Rattle.halls.proofs.edit.judge_read.judge_geometries.Goals as goal
 
-pub loop-geometry-init : goal.loop-geometry-init
-loop-geometry-init c = rw c.into_iter-geometry-iterator.ensures.into_iter_gives (taking-start _ _ c.nothing_taken-total.ensures)
-
-pub taken_together-total-requires : goal.taken_together-total-requires
-taken_together-total-requires c = taking_room c.loop-geometry.invariant c.in-Some.ensures.steps (rw c.view.ensures at c.judge_geometry.ensures) c.requires
-
-pub loop-geometry-preserved : goal.loop-geometry-preserved
-loop-geometry-preserved c = taking_turn c.loop-geometry.invariant c.in-Some.ensures.steps (rw c.view.ensures at c.judge_geometry.ensures) c.taken_together-total.ensures
+pub fold-requires-clause-callable : goal.fold-requires-clause-callable
+fold-requires-clause-callable c =
+    serves_by _ (λ xs q. q.1 ≡ all_taken geometry_taken xs) (λ xs q x v j k. taking_turn geometry_taken xs x j (search rules)) _ _ _ _ (taking-start geometry_taken c.nothing_taken.ensures) (λ xs t q x u y n j.
+    let all = yielded xs c.args.geometries t y ∙ ap (λ zs. xs ++ zs) n in
+    let fits = λ (r : Taken) (e : r ≡ geometry_taken x). taking_room geometry_taken c.args.geometries xs x u c.requires all j e in
+    search (rules, fits))
 
 pub returns : goal.returns
-returns c = taking-end c.loop-geometry.invariant c.in-None.ensures.steps.0
+returns c =
+    fold_over (YieldsFirst (λ (rest : List Geometry). rest)) (λ x. x) _ (λ xs t. t ≡ all_taken geometry_taken xs) _ (λ xs a x b q j k. (taking_turn geometry_taken xs x j (search rules), search rules))
+    c.args.geometries c.args.geometries _ _ (YieldsList-from_first (λ x. x) (λ rest. rest) c.args.geometries refl).runs (taking-start geometry_taken c.nothing_taken.ensures) c.fold.ensures.ran

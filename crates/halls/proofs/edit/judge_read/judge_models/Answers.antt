@@ -1,18 +1,23 @@
 -- Each turn adds the next model.
-use Rattle.halls.proofs.edit.TakingItems.{taking-start, taking-part, taking_room, taking_turn, taking-end}
+use Rattle.std.proofs.Common.{rules, refl, List, ◌≡◌, ◌∙◌, ◌++◌, ap}
+use Rattle.std.proofs.lemmas.Fn.{serves_by, fold_over}
+use Rattle.std.proofs.lemmas.Iterator.Consumers.{YieldsList-from_first}
+use Rattle.std.specs.Iterator.{YieldsFirst}
+use Rattle.halls.specs.Inner.Taking.{model_taken, all_taken}
+use Rattle.halls.specs.List.{Model}
+use Rattle.halls.specs.declared.edit.judge_read.Taken.{Taken}
+use Rattle.halls.proofs.edit.TakingItems.{yielded, taking-start, taking_turn, taking-part, taking_room}
 use Rattle.halls.proofs.edit.judge_read.judge_models.Goals as goal
 
-pub loop-model-init : goal.loop-model-init
-loop-model-init c = rw c.into_iter-model-iterator.ensures.into_iter_gives (taking-start _ _ c.nothing_taken-total.ensures)
-
-pub judge_model-requires : goal.judge_model-requires
-judge_model-requires c = taking-part c.loop-model.invariant c.in-Some.ensures.steps c.requires
-
-pub taken_together-total-requires : goal.taken_together-total-requires
-taken_together-total-requires c = taking_room c.loop-model.invariant c.in-Some.ensures.steps c.judge_model.ensures c.requires
-
-pub loop-model-preserved : goal.loop-model-preserved
-loop-model-preserved c = taking_turn c.loop-model.invariant c.in-Some.ensures.steps c.judge_model.ensures c.taken_together-total.ensures
+pub fold-requires-clause-callable : goal.fold-requires-clause-callable
+fold-requires-clause-callable c =
+    serves_by _ (λ xs q. q.1 ≡ all_taken model_taken xs) (λ xs q x v j k. taking_turn model_taken xs x j (search rules)) _ _ _ _ (taking-start model_taken c.nothing_taken.ensures) (λ xs t q x u y n j.
+    let all = yielded xs c.args.models t y ∙ ap (λ zs. xs ++ zs) n in
+    let part = taking-part model_taken c.args.models xs x u c.requires all in
+    let fits = λ (r : Taken) (e : r ≡ model_taken x). taking_room model_taken c.args.models xs x u c.requires all j e in
+    search (rules, fits, part))
 
 pub returns : goal.returns
-returns c = taking-end c.loop-model.invariant c.in-None.ensures.steps.0
+returns c =
+    fold_over (YieldsFirst (λ (rest : List Model). rest)) (λ x. x) _ (λ xs t. t ≡ all_taken model_taken xs) _ (λ xs a x b q j k. (taking_turn model_taken xs x j (search rules), search rules))
+    c.args.models c.args.models _ _ (YieldsList-from_first (λ x. x) (λ rest. rest) c.args.models refl).runs (taking-start model_taken c.nothing_taken.ensures) c.fold.ensures.ran

@@ -1,8 +1,9 @@
 -- The lowest of the numbers, and where they have none checks 18 and 27, which are the scan's.
-use Rattle.std.proofs.Common.{arith, refl, ap, length, ℕ, ◌∙◌}
+use Rattle.std.proofs.Common.{arith, refl, ap, length, ◌∙◌}
 use Rattle.halls.specs.Hall.{FullGeometry}
 use Rattle.halls.specs.Inner.Judging.{indices_lowest_of}
-use Rattle.halls.proofs.check.JudgingLaws.{lowest-head, lowest_vertices, lowest-triangles, lowest_scanned}
+use Rattle.halls.proofs.check.JudgingLaws.{lowest-head, lowest-triangles}
+use Rattle.halls.proofs.edit.ShownLaws.{full_scanned}
 use Rattle.halls.proofs.edit.judge_read.whole_lowest.Goals as goal
 
 pub returns-then-lowest-ne-PASSED : goal.returns-then-lowest-ne-PASSED
@@ -16,8 +17,5 @@ items_lowest-requires c =
 
 pub returns : goal.returns
 returns c =
-    let g = c.args.geometry.now in
-    let z = c.if-lowest-ne-PASSED.false in
-    let counts = lowest_vertices g refl c.numbers_lowest-lowest.ensures z in
     let same = ap (λ (x : FullGeometry). indices_lowest_of x.vertex_count x.indices.items) c.geometry.view_is in
-    lowest_scanned g refl c.numbers_lowest-lowest.ensures z (c.items_lowest.ensures ∙ same ∙ ap (λ (n : ℕ). indices_lowest_of n g.indices.items) counts)
+    full_scanned c.args.geometry.now c.numbers_lowest-lowest.ensures c.if-lowest-ne-PASSED.false (c.items_lowest.ensures ∙ same)

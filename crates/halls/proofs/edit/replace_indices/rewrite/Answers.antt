@@ -6,5 +6,5 @@ use Rattle.halls.proofs.edit.replace_indices.rewrite.Goals as goal
 pub returns : goal.returns
 returns c =
     let p = c.requires in
-    all-written _ _ _ _ _ _ p.0 p.1 p.2 p.3 refl refl c.move_tail.ensures
-    c.put_lent_indices.ensures c.put_u32_le.ensures c.put_u32_le-2.ensures
+    all-written _ _ _ _ _ _ p.inside.0 p.inside.1 p.inside.2 p.room refl refl c.move_tail.ensures
+    c.put_indices.ensures c.put_u32_le.ensures c.put_u32_le-2.ensures

@@ -2,7 +2,7 @@
 use Rattle.std.proofs.Common.{arith}
 use Rattle.sections.proofs.EditLaws.{Edited-fits}
 use Rattle.sections.proofs.LeLaws.{length-bytes}
-use Rattle.halls.proofs.read.WritingItems.{items-start, items_room, items_turn, items-end}
+use Rattle.halls.proofs.read.WritingItems.{items-start, items_room, items_turn}
 use Rattle.halls.proofs.edit.write_taken.write_shaders.Goals as goal
 
 pub loop-geometry-init : goal.loop-geometry-init
@@ -18,6 +18,3 @@ loop-geometry-preserved c =
     let room = items_room c.loop-geometry.invariant c.requires c.in-Some.ensures.steps in
     let long = length-bytes 2 c.in-Some.geometry.shader in
     items_turn c.loop-geometry.invariant c.requires c.in-Some.ensures.steps (omega (arith, long), rw c.shader.ensures at (Edited-fits 2 c.put_u16_le.ensures (omega (arith, room, long))))
-
-pub returns : goal.returns
-returns c = items-end c.loop-geometry.invariant c.in-None.ensures.steps.0

@@ -1,5 +1,5 @@
 -- Each turn writes the next geometry right behind what was written.
-use Rattle.halls.proofs.read.WritingItems.{items-start, items_room, items_turn, items-end}
+use Rattle.halls.proofs.read.WritingItems.{items-start, items_room, items_turn}
 use Rattle.halls.proofs.edit.write_taken.write_taken_geometries.Goals as goal
 
 pub loop-geometry-init : goal.loop-geometry-init
@@ -10,6 +10,3 @@ write_taken_geometry-next-requires c = rw c.view.ensures (items_room c.loop-geom
 
 pub loop-geometry-preserved : goal.loop-geometry-preserved
 loop-geometry-preserved c = items_turn c.loop-geometry.invariant c.requires c.in-Some.ensures.steps (rw c.view.ensures at c.write_taken_geometry-next.ensures)
-
-pub returns : goal.returns
-returns c = items-end c.loop-geometry.invariant c.in-None.ensures.steps.0

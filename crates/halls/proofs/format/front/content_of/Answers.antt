@@ -5,17 +5,11 @@ use native.Mathlib.Omega.{arith}
 use Rattle.halls.specs.Fronts.{content_at}
 use Rattle.halls.proofs.format.front.content_of.Goals as goal
 
-pub overflow_mul-result : goal.overflow_mul-result
-overflow_mul-result c =
-    let a : c.u32_le.result ≤ 4294967296 = omega arith in
-    let b : c.u16_le.result ≤ 65536 = omega arith in
-    let p = mul-le-mul a b in omega (arith, p)
-
 pub returns : goal.returns
 unfolding content_at
 returns c =
     let n = c.u32_le in
-    let m = c.u16_le in
+    let m = c.from in
     let a : n.result ≤ 4294967296 = omega arith in
     let b : m.result ≤ 65536 = omega arith in
-    (rw (n.ensures, m.ensures), mul-le-mul a b)
+    (rw (n.ensures, m.ensures, c.u16_le.ensures), mul-le-mul a b)

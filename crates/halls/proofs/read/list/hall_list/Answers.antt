@@ -1,51 +1,52 @@
--- Check 1, then no header or the models behind one.
-use mathlib.Core.Path.{refl, sym, ap, ◌∙◌}
-use lib.ListN.{length}
-use Rattle.std.specs.Prelude.{Ok, Err}
-use Rattle.sections.proofs.AddressLaws.{limit-each}
-use Rattle.sections.proofs.EditLaws.{overwrite-none}
+-- Refused by the first pass or for want of room; else the second pass writes what the first has counted.
+use Rattle.std.proofs.Common.{rules, refl, sym, ap, ◌∙◌, ◌≡◌, length, Ok, Err}
+use Rattle.sections.specs.Address.{Sections}
+use Rattle.halls.specs.Inner.Measure.{whole_numbers}
+use Rattle.halls.specs.Inner.View.{models_at}
 use Rattle.halls.specs.Listing.{hall_list}
-use Rattle.halls.proofs.read.ListingLaws.{Shown, limit_exceeded, header_found, header-missing, shown}
+use Rattle.halls.proofs.read.ListingLaws.{Shown, Listing-stopped, Listing-short, Listing-written, shown}
+use Rattle.halls.proofs.read.list.hall_list.Goals.{After-from_residual, After-from_residual-in_err-room, In_ok-room}
 use Rattle.halls.proofs.read.list.hall_list.Goals as goal
 
-over : (c : goal.After-by) → Shown (hall_list c.args.reader.now c.args.va (length c.args.list.now)) c.args.list.now (Err c.by.result) c.args.list.now
-over c =
+refused : (c : After-from_residual) → Shown (hall_list c.args.reader.now c.args.va (length c.args.list.now)) c.args.list.now c.from_residual.result c.args.list.now
+refused c =
     let a = c.args in
-    let s = a.reader.now in
-    shown (hall_list s a.va (length a.list.now)) _ a.list.now (limit_exceeded s a.va (length a.list.now) (sym c.within_limit.ensures ∙ c.if-not-within_limit.true)) (ap Err c.by.ensures) refl
+    let passed : c.from_residual.result ≡ Err c.in_err-found.field-0.0 = search rules in
+    let stopped = c.in_err-found.ensures in
+    shown (hall_list a.reader.now a.va (length a.list.now)) _ a.list.now (Listing-stopped a.reader.now a.va (length a.list.now) _ stopped) (passed ∙ ap Err stopped.needs) refl
 
-pub returns-then-not-within_limit-clause-answer : goal.returns-then-not-within_limit-clause-answer
-returns-then-not-within_limit-clause-answer c = (over c).0
+pub returns-in_err-found-clause-answer : goal.returns-in_err-found-clause-answer
+returns-in_err-found-clause-answer c = (refused c).0
 
-pub returns-then-not-within_limit-clause-bytes : goal.returns-then-not-within_limit-clause-bytes
-returns-then-not-within_limit-clause-bytes c = (over c).1
+pub returns-in_err-found-clause-bytes : goal.returns-in_err-found-clause-bytes
+returns-in_err-found-clause-bytes c = (refused c).1
 
-pub invariant_of-limited : goal.invariant_of-limited
-invariant_of-limited c = let each = limit-each c.args.reader.now (sym c.within_limit.ensures ∙ c.if-not-within_limit.false) in record { small = record { system = each.0; graphics = each.1 } }
-
-listed : (c : goal.After-slice_known-in-Some-1) → Shown (hall_list c.args.reader.now c.args.va (length c.args.list.now)) c.args.list.now c.list_models.result c.list_models.new.list
-listed c =
+short : (c : After-from_residual-in_err-room) → Shown (hall_list c.args.reader.now c.args.va (length c.args.list.now)) c.args.list.now c.from_residual-in_err-room.result c.args.list.now
+short c =
     let a = c.args in
-    let s = a.reader.now in
-    let within = sym c.within_limit.ensures ∙ c.if-not-within_limit.false in
-    let is = header_found s a.va (length a.list.now) within _ (sym c.in-Some.ensures) _ c.len.ensures in
-    shown (hall_list s a.va (length a.list.now)) _ a.list.now is c.list_models.ensures.answer c.list_models.ensures.bytes
+    let passed : c.from_residual-in_err-room.result ≡ Err c.in_err-room.field-0.0 = search rules in
+    let is = Listing-short a.reader.now a.va (length a.list.now) _ c.in_ok-found.ensures c.in_err-room.ensures.0 in
+    shown (hall_list a.reader.now a.va (length a.list.now)) _ a.list.now is (passed ∙ ap Err c.in_err-room.ensures.1) refl
 
-pub returns-in-Some-clause-answer : goal.returns-in-Some-clause-answer
-returns-in-Some-clause-answer c = (listed c).0
+pub returns-in_err-room-clause-answer : goal.returns-in_err-room-clause-answer
+returns-in_err-room-clause-answer c = (short c).0
 
-pub returns-in-Some-clause-bytes : goal.returns-in-Some-clause-bytes
-returns-in-Some-clause-bytes c = (listed c).1
+pub returns-in_err-room-clause-bytes : goal.returns-in_err-room-clause-bytes
+returns-in_err-room-clause-bytes c = (short c).1
 
-missing : (c : goal.In-None) → Shown (hall_list c.args.reader.now c.args.va (length c.args.list.now)) c.args.list.now (Ok 0) c.args.list.now
-missing c =
+-- what the second pass writes is what was found
+models_are : (c : In_ok-room) → models_at c.in_ok-found.found.limited.reader.now (whole_numbers 8 c.in_ok-found.found.pointers.now) ≡ models_at c.args.reader.now (whole_numbers 8 c.in_ok-found.found.pointers.now)
+models_are c = ap (λ (s : Sections). models_at s (whole_numbers 8 c.in_ok-found.found.pointers.now)) c.in_ok-found.ensures.sections_are
+
+written : (c : goal.After-slice_known-2-1) → Shown (hall_list c.args.reader.now c.args.va (length c.args.list.now)) c.args.list.now (Ok c.in_ok-found.found.«length») c.write_models.new.out
+written c =
     let a = c.args in
-    let s = a.reader.now in
-    let none = header-missing s a.va (length a.list.now) (sym c.within_limit.ensures ∙ c.if-not-within_limit.false) (sym c.in-None.ensures) in
-    shown (hall_list s a.va (length a.list.now)) _ a.list.now none refl (sym (overwrite-none a.list.now 0))
+    let k = (goal.at.returns-clause-answer c).In_ok-room in
+    let is = Listing-written a.reader.now a.va (length a.list.now) _ c.in_ok-found.ensures c.in_ok-room.ensures in
+    shown (hall_list a.reader.now a.va (length a.list.now)) _ a.list.now is (ap Ok (sym c.in_ok-found.ensures.long)) (rw (c.new.ensures, models_are k) at c.write_models.ensures.1)
 
-pub returns-in-None-clause-answer : goal.returns-in-None-clause-answer
-returns-in-None-clause-answer c = (missing c).0
+pub returns-clause-answer : goal.returns-clause-answer
+returns-clause-answer c = (written c).0
 
-pub returns-in-None-clause-bytes : goal.returns-in-None-clause-bytes
-returns-in-None-clause-bytes c = (missing c).1
+pub returns-clause-bytes : goal.returns-clause-bytes
+returns-clause-bytes c = (written c).1

@@ -3,4 +3,4 @@ use Rattle.halls.proofs.read.Measuring.{Measuring}
 use Rattle.halls.proofs.read.measure.measure_geometries.Given as goal
 
 abbrev pub invariant-loop-entry : goal.invariant-loop-entry
-invariant-loop-entry l = Measuring l.reader l.before l.fn.entries l.entry-iterator l.total l.count
+invariant-loop-entry l = Measuring l.reader l.before l.fn.entries l.entry-iterator l.total.«length» l.total.count

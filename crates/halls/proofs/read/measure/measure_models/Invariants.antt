@@ -3,4 +3,4 @@ use Rattle.halls.proofs.read.MeasuringModels.{MeasuringModels}
 use Rattle.halls.proofs.read.measure.measure_models.Given as goal
 
 abbrev pub invariant-loop-pointer : goal.invariant-loop-pointer
-invariant-loop-pointer l = MeasuringModels l.reader l.fn.pointers l.pointer-iterator l.total l.count
+invariant-loop-pointer l = MeasuringModels l.reader l.fn.pointers l.pointer-iterator l.total.«length» l.total.count

@@ -13,4 +13,4 @@ returns-then-count-eq0 c = elim c.then-count-eq0.branch [
 
 pub returns : goal.returns
 unfolding list_bytes
-returns c = rw (ne_eqb _ _ c.if-count-eq0.false, ne_eqb _ _ c.if-pointer-eq0.false) c.resolve.ensures
+returns c = rw (ne_eqb _ _ c.if-count-eq0.false, ne_eqb _ _ c.if-pointer-eq0.false, ← c.from.ensures) c.resolve.ensures

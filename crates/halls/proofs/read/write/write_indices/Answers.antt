@@ -14,7 +14,7 @@ put_indices-requires c =
 pub returns-in-Some : goal.returns-in-Some
 returns-in-Some c =
     let one = ap (λ (o : Option Indices). length (optional indices_record o)) c.in-Some.is in (
-      omega (arith, one, indices_record-length c.in-Some.indices, c.held.ensures.0),
+      omega (arith, one, indices_record-length c.in-Some.indices, c.held-held.ensures.0),
       c.put_indices.ensures ∙ ap (λ (o : Option Indices). overwrite c.args.out.now c.args.at (optional indices_record o)) (sym c.in-Some.is),
     )
 

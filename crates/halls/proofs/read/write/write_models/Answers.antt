@@ -1,5 +1,5 @@
 -- Each turn writes the next model right behind what was written.
-use Rattle.halls.proofs.read.WritingItems.{items-start, items_room, items_turn, items-end}
+use Rattle.halls.proofs.read.WritingItems.{items-start, items_room, items_turn}
 use Rattle.halls.proofs.read.write.write_models.Goals as goal
 
 pub loop-model-init : goal.loop-model-init
@@ -10,6 +10,3 @@ write_model-next-requires c = items_room c.loop-model.invariant c.requires c.in-
 
 pub loop-model-preserved : goal.loop-model-preserved
 loop-model-preserved c = items_turn c.loop-model.invariant c.requires c.in-Some.ensures.steps c.write_model-next.ensures
-
-pub returns : goal.returns
-returns c = items-end c.loop-model.invariant c.in-None.ensures.steps.0
