@@ -4,22 +4,22 @@ use Rattle.vertices.specs.declared.attribute.VertexAttributeValue.{VertexAttribu
 use Rattle.vertices.specs.declared.attribute.VertexAttributeValue.TheVariants.{One, Two, Three, Four, Bytes, Unsupported}
 use Rattle.vertices.specs.declared.declaration.VertexDeclaration.{VertexDeclaration}
 use Rattle.vertices.specs.declared.values.F32.{F32}
-use Rattle.halls.specs.Calls.{Given}
+use Rattle.halls.specs.Calls.{Call, add_geometry}
 
 -- reading, unifying and the id look at flags and types only
 abbrev pub declared : ℕ → ℕ → VertexDeclaration
 declared flags types = record { flags = flags; stride = 0; unknown_6h = 0; count = 0; types = types }
 
--- a geometry to add: the declaration's numbers stand between the shader and the stride
-abbrev pub passed_geometry : (shader flags declared_stride unknown_6h declared_count types stride count : ℕ) → (content indices : List ℕ) → Given
-passed_geometry shader flags declared_stride unknown_6h declared_count types stride count content indices = record {
+-- the call add geometry: the declaration's numbers stand between the shader and the stride
+abbrev pub passed_addition : (shader flags declared_stride unknown_6h declared_count types stride count : ℕ) → (content indices : List ℕ) → Call
+passed_addition shader flags declared_stride unknown_6h declared_count types stride count content indices = add_geometry (record {
   shader = shader;
   declaration = record { flags = flags; stride = declared_stride; unknown_6h = unknown_6h; count = declared_count; types = types };
   stride = stride;
   count = count;
   content = content;
   indices = indices;
-}
+})
 
 -- a float by its bits
 abbrev pub float : ℕ → F32

@@ -1,9 +1,9 @@
 // The calls that edit the hall in the first n bytes of a lent buffer. The C interface passes every number as an argument of its own: so some functions have
 // more than seven parameters, and a semantic and a value's shape are numbers.
 ghost use Rattle.sections.specs.Address.{sections};
-ghost use Rattle.halls.specs.Calls.{add_model, add_geometry, remove_geometry, remove_model, set_attribute, replace_indices, take_in};
+ghost use Rattle.halls.specs.Calls.{add_model, remove_geometry, remove_model, set_attribute, replace_indices, take_in};
 ghost use Rattle.exports.specs.Editing.{ToldStep};
-ghost use Rattle.exports.specs.Passed.{passed_geometry, passed_value};
+ghost use Rattle.exports.specs.Passed.{passed_addition, passed_value};
 
 use crate::told::told;
 use crate::values::passed_value;
@@ -40,7 +40,7 @@ pub extern "C" fn calicofern_add_geometry(
     indices: &[u32],
     size: &mut u64,
 ) -> u8
-    ensures { ToldStep (add_geometry (passed_geometry shader flags declared_stride unknown_6h declared_count types stride count content.now indices.now)) hall.old n result hall.new size.new }
+    ensures { ToldStep (passed_addition shader flags declared_stride unknown_6h declared_count types stride count content.now indices.now) hall.old n result hall.new size.new }
 {
     let declaration = VertexDeclaration {
         flags,
