@@ -148,6 +148,20 @@ module _ (s : List ℕ) (h : Hall) (same : hall_records h ≡ records s) (m : �
       let place : at ≡ 0 + records_length (hall_records (take m h)) = cc in
       there x xs e (omega (arith, place, hall-length (take m h)))
 
+  pub no-model : None ≡ sought s 0 1 m → item m h ≡ None
+  no-model e = by (drop m h) refl
+    where
+      by : (l : Hall) → drop m h ≡ l → item m h ≡ None
+      by [] q = rw q
+      by (x ∷ xs) q = let clash : None ≡ Some (0 + records_length (hall_records (take m h))) = e ∙ sought-model ∙ rw q in let z : ◌≡◌ {A = ℕ} 0 1 = cc in absurd (omega arith)
+
+  pub ModelHere_lem : {at : ℕ} → Some at ≡ sought s 0 1 m → ModelHere s h m at
+  ModelHere_lem {at} e = by (drop m h) refl
+    where
+      by : (l : Hall) → drop m h ≡ l → ModelHere s h m at
+      by [] q = let clash : Some at ≡ None = e ∙ sought-model ∙ rw q in let z : ◌≡◌ {A = ℕ} 0 1 = cc in absurd (omega arith)
+      by (x ∷ xs) q = sought-there x xs q e
+
 -- ---- where it ends
 
 module _ {s : List ℕ} {h : Hall} {m at : ℕ} (w : ModelHere s h m at) where
@@ -257,28 +271,30 @@ module _ (s : List ℕ) (start : ℕ) (gs : List FullGeometry) (ms : Hall) (w : 
 module _ (s : List ℕ) (h : Hall) (same : hall_records h ≡ records s) (m : ℕ) where
   pub model-absent : None ≡ sought s 0 1 m → None ≡ model_place h m
   unfolding model_place
-  model-absent e = by (drop m h) refl
-    where
-      by : (l : Hall) → drop m h ≡ l → None ≡ model_place h m
-      by [] q = rw q
-      by (x ∷ xs) q = let clash : None ≡ Some (0 + records_length (hall_records (take m h))) = e ∙ sought-model s h same m ∙ rw q in let z : ◌≡◌ {A = ℕ} 0 1 = cc in absurd (omega arith)
+  model-absent e = rw (no-model s h same m e)
 
   pub model_found_lem : {at : ℕ} → Some at ≡ sought s 0 1 m → Some at ≡ model_place h m
   unfolding model_place
-  model_found_lem {at} e = by (drop m h) refl
-    where
-      by : (l : Hall) → drop m h ≡ l → Some at ≡ model_place h m
-      by [] q = let clash : Some at ≡ None = e ∙ sought-model s h same m ∙ rw q in let z : ◌≡◌ {A = ℕ} 0 1 = cc in absurd (omega arith)
-      by (x ∷ xs) q = let w = sought-there s h same m x xs q e in rw (w.is, ← w.place)
+  model_found_lem e = let w = ModelHere_lem s h same m e in rw (w.is, ← w.place)
+
+  pub without-model : (g : ℕ) → None ≡ sought s 0 1 m → None ≡ geometry_place h m g
+  unfolding geometry_place
+  without-model g e = rw (no-model s h same m e)
 
 module _ {s : List ℕ} {h : Hall} {m at : ℕ} (w : ModelHere s h m at) (g : ℕ) where
   abbrev pub GeometryOf : ℕ → Type 0
   GeometryOf place = GeometryHere s (start w) w.it.geometries g place
 
-  pub geometry-absent : {n : ℕ} → n ≡ field 4 s at → None ≡ sought s (at + 6 + n) 2 g → None ≡ geometry_place h m g
-  unfolding geometry_place
-  geometry-absent e f =
-      rw (w.is, no-geometry s (start w) w.it.geometries w.others w.behind g (f ∙ ap (λ (k : ℕ). sought s k 2 g) (behind-model w e)))
+  module _ {n : ℕ} (e : n ≡ field 4 s at) where
+    from_start : sought s (at + 6 + n) 2 g ≡ sought s (start w) 2 g
+    from_start = ap (λ (k : ℕ). sought s k 2 g) (behind-model w e)
+
+    pub geometry-absent : None ≡ sought s (at + 6 + n) 2 g → None ≡ geometry_place h m g
+    unfolding geometry_place
+    geometry-absent f = rw (w.is, no-geometry s (start w) w.it.geometries w.others w.behind g (f ∙ from_start))
+
+    pub geometry-stands : {place : ℕ} → Some place ≡ sought s (at + 6 + n) 2 g → GeometryOf place
+    geometry-stands f = GeometryHere_lem s (start w) w.it.geometries w.others w.behind g (f ∙ from_start)
 
   pub geometry_found_lem : {place n : ℕ} → GeometryOf place → n ≡ field 4 s (place + 42)
       → Some (record { model = at; geometry = place; declaration = place + 20; vertices = place + 42; indices = place + 42 + 6 + n }) ≡ (geometry_place h m g)

@@ -4,6 +4,7 @@ use Rattle.std.specs.Prelude.{Bool, cond, ◌&&◌, List, ℕ, ◌-◌, ◌/◌,
 use Rattle.sections.specs.Edit.{part, fits}
 use Rattle.sections.specs.declared.lookup.Located.{Located}
 use Rattle.sections.specs.declared.lookup.Located.TheVariants.{System, Graphics}
+use Rattle.sections.specs.declared.reader.ResReader.{ResReader}
 
 pub record Sections : Type 0 where
   pub system : List ℕ
@@ -11,6 +12,10 @@ pub record Sections : Type 0 where
 
 abbrev pub sections : List ℕ → List ℕ → Sections
 sections s g = record { system = s; graphics = g }
+
+-- the bytes of the two slices that a reader holds
+abbrev pub sections_of : ResReader → Sections
+sections_of r = sections r.system.now r.graphics.now
 
 -- check 1: both have at most 67,108,864 bytes
 unfoldable pub within_limit : Sections → Bool

@@ -1,5 +1,6 @@
 // Lists behind a pointer: where their elements lie, and the header that gives pointer and count.
 ghost use Rattle.std.specs.Prelude.{◌≡◌};
+ghost use Rattle.sections.specs.Address.{sections_of};
 ghost use Rattle.sections.specs.Lists.{located_list, header_at, header_length};
 
 use crate::fields::{u16_le, u64_le};
@@ -44,7 +45,7 @@ impl<'a> ResReader<'a> {
     // Where the elements of a list lie, count of width bytes each. A list with count 0 or pointer 0 is empty, never an error.
     #[tactic(auto, unfolding(crate::specs::Lists::located_list))]
     pub fn locate_list(&self, va: u64, count: u32, width: u8) -> Result<Option<Located>, Unresolved>
-        ensures { result ≡ located_list self.now va count width }
+        ensures { result ≡ located_list (sections_of self.now) va count width }
     {
         if count == 0 || va == 0 {
             return Ok(None);
@@ -56,7 +57,7 @@ impl<'a> ResReader<'a> {
     }
 
     pub fn read_pointer_list_header(&self, va: u64) -> Option<PointerListHeader>
-        ensures { result ≡ header_at self.now va }
+        ensures { result ≡ header_at (sections_of self.now) va }
     {
         let raw = self.resolve(va, 16)?;
         Some(PointerListHeader {

@@ -1,43 +1,36 @@
 // The two sections of a drawable, read together: lookup of an address, and the bytes behind it.
-ghost use Rattle.std.specs.Prelude.{◌≡◌};
+ghost use Rattle.std.specs.Prelude.{◌≡◌, option_and_then};
 ghost use Rattle.std.specs.Option.{option_copied};
-ghost use Rattle.sections.specs.Address.{sections, located, part_of, range_of, resolved, within_limit};
+ghost use Rattle.sections.specs.Address.{sections_of, located, part_of, range_of, resolved, within_limit};
 
 use crate::lookup::{GRAPHICS_BASE, Located, SECTION_LIMIT, SYSTEM_BASE};
 use crate::range::ends_inside;
-use std::marker::Model;
 
-#[derive(Drop)]
+// No `impl Model`: a view of the bytes forgets which slices they are, and a struct with a lifetime and a model cannot be `Copy`.
+#[derive(Clone, Copy)]
 pub struct ResReader<'a> {
-    system: &'a [u8],
-    graphics: &'a [u8],
-}
-
-impl<'a> Model for ResReader<'a> {
-    ghost use Rattle.sections.specs.Address.{Sections, sections};
-
-    ghost Value = { Sections };
-
-    ghost view = { λ r. sections r.system.now r.graphics.now };
+    pub system: &'a [u8],
+    pub graphics: &'a [u8],
 }
 
 impl<'a> ResReader<'a> {
     pub fn new(system: &'a [u8], graphics: &'a [u8]) -> ResReader<'a>
-        ensures { result ≡ sections system.now graphics.now }
+        ensures { (result.system ≡ system.entry) × (result.graphics ≡ graphics.entry) }
     {
         ResReader { system, graphics }
     }
 
     // Check 1: both sections are within the limit.
+    #[tactic(auto, unfolding(crate::specs::Address::within_limit))]
     pub fn within_limit(&self) -> bool
-        ensures { result ≡ within_limit self.now }
+        ensures { result ≡ within_limit (sections_of self.now) }
     {
         self.system.len() <= SECTION_LIMIT && self.graphics.len() <= SECTION_LIMIT
     }
 
     // Where the len bytes behind an address lie. Each base has two bits set: an address with both is of its section, and graphics is tried first.
     pub fn locate(&self, va: u64, len: usize) -> Option<Located>
-        ensures { result ≡ located self.now va len }
+        ensures { result ≡ located (sections_of self.now) va len }
     {
         if va == 0 {
             return None;
@@ -53,21 +46,22 @@ impl<'a> ResReader<'a> {
         None
     }
 
-    // The len bytes at a place as one slice, so that a reader need not know the section; none where they do not end inside it.
-    pub fn bytes_of(&self, place: Located, len: usize) -> Option<&'a [u8]>
-        ensures { option_copied result ≡ range_of self.now place len }
+    // The len bytes at a place as one slice, so that a reader need not know the section; none of no place, or where they do not end inside it.
+    pub fn bytes_of(&self, place: Option<Located>, len: usize) -> Option<&'a [u8]>
+        ensures { option_copied result ≡ option_and_then (λ p. range_of (sections_of self.now) p len) place }
     {
-        match place {
+        match place? {
             Located::System(at) => part_of(self.system, at, len),
             Located::Graphics(at) => part_of(self.graphics, at, len),
         }
     }
 
     // The len bytes behind an address.
+    #[tactic(auto, unfolding(crate::specs::Address::resolved))]
     pub fn resolve(&self, va: u64, len: usize) -> Option<&'a [u8]>
-        ensures { option_copied result ≡ resolved self.now va len }
+        ensures { option_copied result ≡ resolved (sections_of self.now) va len }
     {
-        self.bytes_of(self.locate(va, len)?, len)
+        self.bytes_of(self.locate(va, len), len)
     }
 }
 

@@ -50,8 +50,7 @@ pub fn bytes_of_row(out: &mut impl Write, row: Row) -> io::Result<()> {
     let wanted = place_of(row.c, row.d as usize);
     write!(out, "bytes_of")?;
     numbers(out, row, 5)?;
-    let found = wanted.and_then(|p| lent.reader().bytes_of(p, row.e as usize));
-    slice(out, found)
+    slice(out, lent.reader().bytes_of(wanted, row.e as usize))
 }
 
 // within_limit. Only its yes is tried here: a section of more than 67,108,864 bytes does not fit on a program's stack.

@@ -41,7 +41,7 @@ impl fmt::Display for AttributeError {
 impl error::Error for AttributeError {}
 
 // The attributes of the components that are still to come, of the vertex that begins at `base`, seen as the list of them.
-#[derive(Drop)]
+#[derive(Clone, Drop)]
 pub struct Attributes<'a> {
     data: &'a [u8],
     base: usize,

@@ -1,5 +1,6 @@
 // Locating the vertices of a geometry: the layouts of a vertex buffer block, tried in order, then the geometry's own pointer.
 ghost use Rattle.std.specs.Prelude.{◌≡◌, ◌*◌, ◌<◌};
+ghost use Rattle.sections.specs.Address.{sections_of};
 ghost use Rattle.vertices.specs.Buffer.{layout_number, vertex_data, stored_declaration, or_position_only, legacy_at, block_buffer, vertex_buffer_at};
 
 use crate::declaration::{VertexDeclaration, read_declaration};
@@ -47,8 +48,7 @@ impl VertexBuffer {
     pub fn or_position_only(self) -> VertexDeclaration
         ensures { result ≡ or_position_only self.declaration self.vertex_stride }
     {
-        self.declaration
-            .unwrap_or_else(|| VertexDeclaration::position_only(self.vertex_stride))
+        or_position_only(self.declaration, self.vertex_stride)
     }
 
     // The bytes of all vertices.
@@ -57,6 +57,16 @@ impl VertexBuffer {
     {
         self.vertex_count as usize * usize::from(self.vertex_stride)
     }
+}
+
+// A stored declaration, or `position_only` of a stride where none is stored.
+pub fn or_position_only(
+    declaration: Option<VertexDeclaration>,
+    vertex_stride: u16,
+) -> VertexDeclaration
+    ensures { result ≡ or_position_only declaration vertex_stride }
+{
+    declaration.unwrap_or_else(|| VertexDeclaration::position_only(vertex_stride))
 }
 
 // The first layout whose data resolves: those of the block behind va in order, else the geometry's own stream.
@@ -68,7 +78,7 @@ pub fn parse_vertex_buffer_at(
     inline_vertex_count: u32,
     inline_vertex_stride: u16,
 ) -> Option<VertexBuffer>
-    ensures { result ≡ vertex_buffer_at reader.now va inline_data_pointer inline_vertex_count inline_vertex_stride }
+    ensures { result ≡ vertex_buffer_at (sections_of reader.now) va inline_data_pointer inline_vertex_count inline_vertex_stride }
 {
     let inline = Stream {
         pointer: inline_data_pointer,
@@ -87,7 +97,7 @@ pub fn parse_vertex_buffer_at(
 // The block's three layouts. A later one is looked up where those before it are not found.
 #[tactic(auto, using(crate::proofs::BufferLaws::plain_legacy), unfolding(crate::specs::Buffer::block_buffer))]
 fn block_buffer(reader: &ResReader, raw: &[u8]) -> Option<VertexBuffer>
-    ensures { result ≡ block_buffer reader.now raw.now }
+    ensures { result ≡ block_buffer (sections_of reader.now) raw.now }
 {
     let count = u32_le(raw, 0x18);
     let stride = u16_le(raw, 0x08);
@@ -123,7 +133,7 @@ fn buffer_at(
     stream: Stream,
     info: u64,
 ) -> Option<VertexBuffer>
-    ensures { result ≡ legacy_at reader.now layout stream.pointer stream.count stream.stride info }
+    ensures { result ≡ legacy_at (sections_of reader.now) layout stream.pointer stream.count stream.stride info }
 {
     let data = vertex_data(reader, stream)?;
     Some(VertexBuffer {
@@ -139,7 +149,7 @@ fn buffer_at(
 
 #[tactic(auto, unfolding(crate::specs::Buffer::vertex_data))]
 fn vertex_data(reader: &ResReader, stream: Stream) -> Option<Located>
-    ensures { result ≡ vertex_data reader.now stream.pointer stream.count stream.stride }
+    ensures { result ≡ vertex_data (sections_of reader.now) stream.pointer stream.count stream.stride }
 {
     if stream.pointer == 0 || stream.count == 0 || stream.stride == 0 {
         return None;
@@ -152,7 +162,7 @@ fn vertex_data(reader: &ResReader, stream: Stream) -> Option<Located>
 
 #[tactic(auto, unfolding(crate::specs::Buffer::stored_declaration))]
 fn stored_declaration(reader: &ResReader, info: u64) -> Option<VertexDeclaration>
-    ensures { result ≡ stored_declaration reader.now info }
+    ensures { result ≡ stored_declaration (sections_of reader.now) info }
 {
     reader.resolve(info, 16).map(|raw| read_declaration(raw, 0))
 }

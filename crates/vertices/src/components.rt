@@ -8,7 +8,7 @@ use std::marker::Model;
 
 // The components of the flags from `index` to 15 that are set, seen as the list of them. The lowest flag and type nibble are those of
 // `index`, and the next component stands at `offset`.
-#[derive(Drop)]
+#[derive(Clone, Drop)]
 pub struct Components {
     index: u8,
     flags: u32,

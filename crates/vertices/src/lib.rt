@@ -21,7 +21,7 @@ mod vertices;
 
 pub use attribute::{VertexAttribute, VertexAttributeValue, as_rgba8};
 pub use attributes::{AttributeError, Attributes, read_vertex_attributes};
-pub use buffer::{VertexBuffer, VertexBufferLayout, parse_vertex_buffer_at};
+pub use buffer::{VertexBuffer, VertexBufferLayout, or_position_only, parse_vertex_buffer_at};
 pub use byte_runs::{floats_to_snorm8, floats_to_unorm8, snorm8_to_floats, unorm8_to_floats};
 pub use components::Components;
 pub use declaration::{VertexDeclaration, read_declaration, write_declaration};

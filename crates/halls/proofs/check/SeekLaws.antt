@@ -90,7 +90,7 @@ module _ {kind left : ℕ} {all : Option ℕ} {rest : List RecordSpan} (w : Seek
       same = sym (place_past kind left w.at parts.it parts.others (λ z. k (kind_is ∙ z)) (λ z. m (kind_is ∙ z))) ∙ whole;
     }
 
--- ---- in some bytes: what is sought stays the same from record to record
+-- ---- in some bytes: what is sought is the record that begins there, or stays the same from record to record
 
 module _ (s : List ℕ) (at kind skip : ℕ) {found : RecordSpan} (q : Spans s at found) where
   low : at ≤ length s
@@ -99,19 +99,33 @@ module _ (s : List ℕ) (at kind skip : ℕ) {found : RecordSpan} (q : Spans s a
   body_is : length (part s found.start (found.end - found.start)) ≡ found.end - found.start
   body_is = part_length s found.start (found.end - found.start) (omega (arith, q.inside, q.start-is, q.end-is))
 
+  -- the record that begins there
+  abbrev here : Record
+  here = record { kind = found.kind; body = take (found.end - found.start) (drop found.start s) }
+
+  behind : at + 6 + length here.body ≡ found.end
+  unfolding part
+  behind = omega (arith, body_is, q.start-is, q.end-is)
+
+  first : records (drop at s) ≡ here ∷ records (drop found.end s)
+  unfolding part
+  first = rw (records-one s at low q)
+
+  pub sought-here : found.kind ≡ kind → skip ≡ 0 → Some at ≡ sought s at kind skip
+  unfolding sought
+  sought-here k z = rw (first, place_here kind skip at here (records (drop found.end s)) k z)
+
   pub sought-next : found.kind ≡ kind → (skip ≡ 0 → ⊥) → sought s found.end kind (skip - 1) ≡ sought s at kind skip
-  unfolding sought part
-  sought-next k z =
-      let r : Record = record { kind = found.kind; body = take (found.end - found.start) (drop found.start s) } in
-      let behind : at + 6 + length r.body ≡ found.end = omega (arith, body_is, q.start-is, q.end-is) in
-      rw (records-one s at low q, place-next kind skip at r (records (drop found.end s)) k z, behind)
+  unfolding sought
+  sought-next k z = rw (first, place-next kind skip at here (records (drop found.end s)) k z, behind)
+
+  pub sought-ended : (found.kind ≡ kind → ⊥) → found.kind ≡ 1 → None ≡ sought s at kind skip
+  unfolding sought
+  sought-ended k m = rw (first, place-ended kind skip at here (records (drop found.end s)) k m)
 
   pub sought-past : (found.kind ≡ kind → ⊥) → (found.kind ≡ 1 → ⊥) → sought s found.end kind skip ≡ sought s at kind skip
-  unfolding sought part
-  sought-past k m =
-      let r : Record = record { kind = found.kind; body = take (found.end - found.start) (drop found.start s) } in
-      let behind : at + 6 + length r.body ≡ found.end = omega (arith, body_is, q.start-is, q.end-is) in
-      rw (records-one s at low q, place_past kind skip at r (records (drop found.end s)) k m, behind)
+  unfolding sought
+  sought-past k m = rw (first, place_past kind skip at here (records (drop found.end s)) k m, behind)
 
 -- ---- the records behind others
 

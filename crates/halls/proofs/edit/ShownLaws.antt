@@ -63,7 +63,7 @@ pub lacks_indices : (s : Sections) (v : GeometryView) (b : VertexBuffer) → v.b
 unfolding geometry_shown
 lacks_indices s v b e f = rw (e, f)
 
-pub shown-full : (s : Sections) (v : GeometryView) (b : VertexBuffer) (i : Indices) → v.buffer ≡ Some b → indices_shown s v.indices ≡ Some i → as_halls (geometry_shown s v) ≡ Some (full_shown v b (content_at s b) i)
+pub shown-full : (s : Sections) (v : GeometryView) (b : VertexBuffer) (i : Indices) → v.buffer ≡ Some b → indices_shown s v.indices ≡ Some i → as_halls (geometry_shown s v) ≡ Some (full_shown v.numbers b (content_at s b) i)
 unfolding geometry_shown vertices_of
 shown-full s v b i e f = rw (e, f)
 

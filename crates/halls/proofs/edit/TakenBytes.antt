@@ -16,12 +16,16 @@ use Rattle.vertices.specs.Runs.{run}
 use Rattle.halls.specs.Calls.{taken_geometry, taken_model, both, all_of}
 use Rattle.halls.specs.Hall.{FullGeometry, FullModel, Hall, listed_geometry, listed_model, hall_bytes}
 use Rattle.halls.specs.List.{Vertices, Indices, Geometry, Model, optional, each, record_bytes, model_numbers, model_record, write_geometry, write_geometries, write_model}
-use Rattle.halls.specs.Blocks.{geometry_block, model_block}
-use Rattle.halls.specs.Reading.{geometry_with, geometry_of}
+use Rattle.halls.specs.Blocks.{geometry_block, ModelBlock, model_block}
+use Rattle.halls.specs.Reading.{or_empty, geometry_with, geometry_of}
 use Rattle.halls.specs.Inner.Small.{Wrote}
-use Rattle.halls.specs.Inner.View.{geometry_in, model_of, model_in}
-use Rattle.halls.specs.Inner.Taking.{as_halls, geometry_bytes, model_bytes, shader_bytes}
+use Rattle.halls.specs.Inner.Measure.{whole_numbers}
+use Rattle.halls.specs.Inner.View.{ListsOf, geometry_view, geometry_in, geometries_at, model_of, model_in}
+use Rattle.halls.specs.Inner.Taking.{as_halls, geometry_shown, geometry_bytes, model_bytes, shader_bytes}
+use Rattle.halls.specs.declared.read.view.GeometryView.{GeometryView}
+use Rattle.halls.proofs.edit.ShownLaws.{shown-is}
 use Rattle.halls.proofs.read.EachLaws.{each-one}
+use Rattle.halls.proofs.read.StoredLaws.{model_geometries}
 use Rattle.halls.proofs.read.ViewLaws.{Record-length, geometry_record-length, declaration_record-length, vertices_record-length, indices_record-length}
 
 -- nothing was written
@@ -55,6 +59,19 @@ shader_in s shader (Some raw) e = each-one shader_bytes (geometry_of s shader (g
 
 pub model_bytes-in : (s : Sections) (pointer : ℕ) (raw : List ℕ) → resolved s pointer 0x30 ≡ Some raw → model_bytes (model_of s (model_block raw)) ≡ each model_bytes (model_in s (resolved s pointer 0x30))
 model_bytes-in s pointer raw e = sym (each-one model_bytes (model_of s (model_block raw))) ∙ ap (λ (o : Option (List ℕ)). each model_bytes (model_in s o)) (sym e)
+
+pub geometry_in_lem : (s : Sections) (shader pointer : ℕ) (raw : List ℕ) → resolved s pointer 0x98 ≡ Some raw → (v : GeometryView) → v ≡ geometry_view s shader (geometry_block raw)
+    → geometry_bytes (geometry_shown s v) ≡ each geometry_bytes (geometry_in s shader (resolved s pointer 0x98))
+geometry_in_lem s shader pointer raw e v q =
+    ap (λ (x : GeometryView). geometry_bytes (geometry_shown s x)) q ∙ ap geometry_bytes (shown-is s shader (geometry_block raw))
+    ∙ sym (each-one geometry_bytes (geometry_of s shader (geometry_block raw))) ∙ ap (λ (o : Option (List ℕ)). each geometry_bytes (geometry_in s shader o)) (sym e)
+
+-- the bytes of a block's model are those of its numbers and of the geometries behind its lists
+pub Block-bytes : (s : Sections) (b : ModelBlock) (pointers : Option (List ℕ)) (mapping : List ℕ) → ListsOf s b pointers mapping → (binding mask : ℕ) → binding ≡ b.binding → mask ≡ b.mask
+    → model_bytes (record { binding = binding; mask = mask; mapping = []; geometries = geometries_at s (whole_numbers 2 mapping) (whole_numbers 8 (or_empty pointers)) }) ≡ model_bytes (model_of s b)
+unfolding model_bytes model_of
+Block-bytes s b pointers mapping l binding mask e f =
+    ap (λ (gs : List Geometry). model_bytes (record { binding = binding; mask = mask; mapping = []; geometries = gs })) (model_geometries s b pointers mapping l refl) ∙ rw (e, f)
 
 -- ---- a model: the mapping, its numbers before it, and the geometries behind
 

@@ -6,20 +6,22 @@ use mathlib.Core.List.{List, [], ◌∷◌}
 use Prim.Native.Nat.{ℕ, ◌≤◌}
 use native.Mathlib.Omega.{arith}
 use lib.ListN.{length}
-use Rattle.sections.specs.Address.{Sections}
-use Rattle.halls.specs.Blocks.{ModelBlock}
+use Rattle.sections.specs.Address.{Sections, resolved}
+use Rattle.halls.specs.Blocks.{ModelBlock, geometry_block, model_block}
 use Rattle.halls.specs.Inner.Measure.{whole_numbers}
-use Rattle.halls.specs.Inner.View.{ListsOf, geometries_at, model_of}
-use Rattle.halls.specs.Reading.{or_empty}
+use Rattle.halls.specs.Inner.View.{ListsOf, geometry_view, geometry_in, geometries_at, model_of, model_in}
+use Rattle.halls.specs.Reading.{or_empty, geometry_of}
 use Rattle.halls.proofs.read.StoredLaws.{model_geometries}
 use Rattle.halls.specs.Checks.{strides_agree, components_inside, vertex_counts_agree, index_counts_agree, indices_in_range, triangles_distinct}
 use Rattle.halls.specs.Hall.{FullGeometry}
 use Rattle.halls.specs.Inner.Judging.{lowest_of}
 use Rattle.halls.specs.Inner.Order.{passed}
 use Rattle.halls.specs.List.{Geometry, Model}
-use Rattle.halls.specs.Inner.Taking.{lowest_in, geometry_taken, together, all_taken, record_taken, model_taken, Fitting}
+use Rattle.halls.specs.Inner.Taking.{as_halls, geometry_shown, lowest_in, geometry_taken, together, all_taken, record_taken, model_taken, Fitting}
 use Rattle.halls.specs.declared.edit.judge_read.Taken.{Taken}
-use Rattle.halls.proofs.edit.TakingItems.{fits-second}
+use Rattle.halls.specs.declared.read.view.GeometryView.{GeometryView}
+use Rattle.halls.proofs.edit.ShownLaws.{shown-is}
+use Rattle.halls.proofs.edit.TakingItems.{nothing-behind, fits-second}
 
 -- ---- one geometry
 
@@ -40,7 +42,26 @@ in_low : (o : Option FullGeometry) → lowest_in o ≤ passed
 in_low None = omega arith
 in_low (Some g) = (of_bounds g).1
 
+one-geometry : (g : Geometry) → all_taken geometry_taken (g ∷ []) ≡ geometry_taken g
+unfolding all_taken geometry_taken
+one-geometry g = nothing-behind (geometry_taken g) (in_low (as_halls g))
+
+-- the geometry of the block behind a pointer
+pub geometry_in_lem : (s : Sections) (shader pointer : ℕ) (raw : List ℕ) → resolved s pointer 0x98 ≡ Some raw → (v : GeometryView) → v ≡ geometry_view s shader (geometry_block raw)
+    → geometry_taken (geometry_shown s v) ≡ all_taken geometry_taken (geometry_in s shader (resolved s pointer 0x98))
+geometry_in_lem s shader pointer raw e v q =
+    ap (λ (x : GeometryView). geometry_taken (geometry_shown s x)) q ∙ ap geometry_taken (shown-is s shader (geometry_block raw)) ∙ sym (one-geometry (geometry_of s shader (geometry_block raw)))
+    ∙ ap (λ (o : Option (List ℕ)). all_taken geometry_taken (geometry_in s shader o)) (sym e)
+
 -- ---- one model
+
+one-model : (m : Model) → all_taken model_taken (m ∷ []) ≡ model_taken m
+unfolding all_taken model_taken
+one-model m = nothing-behind (model_taken m) (omega arith)
+
+-- the model of the block behind a pointer
+pub model_in_lem : (s : Sections) (pointer : ℕ) (raw : List ℕ) → resolved s pointer 0x30 ≡ Some raw → model_taken (model_of s (model_block raw)) ≡ all_taken model_taken (model_in s (resolved s pointer 0x30))
+model_in_lem s pointer raw e = sym (one-model (model_of s (model_block raw))) ∙ ap (λ (o : Option (List ℕ)). all_taken model_taken (model_in s o)) (sym e)
 
 -- as many as were read
 pub geometries-counted : (gs : List Geometry) → (all_taken geometry_taken gs).summary.geometries ≡ length gs

@@ -8,7 +8,7 @@ use Prim.Native.Nat.{ℕ, ◌/◌, ◌^◌, ◌≤◌, ◌<◌}
 use native.Mathlib.Omega.{arith}
 use borrow.Author.Tests.{le-leb, lt-leb}
 use lib.ListN.{length}
-use Rattle.sections.specs.Address.{Sections, resolved, within_limit}
+use Rattle.sections.specs.Address.{Sections, resolved, within_limit, sections_of}
 use Rattle.sections.specs.Lists.{header_length, header_of, header_at}
 use Rattle.sections.specs.declared.lists.PointerListHeader.{PointerListHeader}
 use Rattle.halls.specs.List.{Model, write}
@@ -82,7 +82,7 @@ module _ (s : Sections) (va : ℕ) where
           record { is = as_read ∙ no.is; needs = no.needs }
 
       -- the second pass writes as many bytes as the first has counted
-      pub Listing-length : count ≤ 65535 → (v : Measured) → Ok v ≡ measured_models reading → (list : MeasuredList) → list.limited.reader.now ≡ s → list.pointers.now ≡ pointers
+      pub Listing-length : count ≤ 65535 → (v : Measured) → Ok v ≡ measured_models reading → (list : MeasuredList) → (sections_of list.limited.reader.now) ≡ s → list.pointers.now ≡ pointers
           → list.«length» ≡ v.«length» → ListMeasured s va list
       Listing-length small v same list from are long =
           let got = read_as (λ (ms : List Model). length (write ms)) geometries_in reading v same in

@@ -51,16 +51,16 @@ records_of_view s v =
     ∙ ap (λ (x : List ℕ). head ++ ((declared ++ found) ++ x)) (index_record_lem s v.indices)
     ∙ ap (λ (x : List ℕ). head ++ x) (append_assoc declared found _)
 
--- of the view of a block, those of the geometry that is read
-pub view_records_lem : (s : Sections) (shader : ℕ) (b : GeometryBlock) → view_records s (geometry_view s shader b) ≡ write_geometry (geometry_of s shader b)
-view_records_lem s shader b = records_of_view s (geometry_view s shader b) ∙ ap write_geometry (shown-is s shader b)
-
 module _ (s : Sections) (v : GeometryView) {g : Geometry} (is : geometry_shown s v ≡ g) where
   pub shown_records : view_records s v ≡ write_geometry g
   shown_records = records_of_view s v ∙ ap write_geometry is
 
   pub shown_length : BufferHeld s v.buffer → length (write_geometry g) ≡ view_length v
   shown_length h = ap length (sym shown_records) ∙ view_records-length s v h
+
+-- so of the view of a block: those of the geometry that is read
+pub view_records_lem : (s : Sections) (shader : ℕ) (b : GeometryBlock) → view_records s (geometry_view s shader b) ≡ write_geometry (geometry_of s shader b)
+view_records_lem s shader b = shown_records s (geometry_view s shader b) (shown-is s shader b)
 
 -- ---- places in small sections
 

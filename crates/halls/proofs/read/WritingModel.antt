@@ -1,18 +1,25 @@
 -- A model's record and its geometries, from the bytes of its mapping.
+use Rattle.std.specs.Prelude.{Option, Some}
 use mathlib.Core.Path.{◌≡◌, sym, ap, ◌∙◌}
 use mathlib.Core.List.{List, ◌++◌}
 use Prim.Native.Nat.{ℕ, ◌+◌, ◌*◌, ◌/◌, ◌≤◌}
 use native.Mathlib.Omega.{arith}
 use lib.ListN.{length, length-append}
+use Rattle.sections.specs.Address.{Sections, resolved}
 use Rattle.sections.specs.Edit.{overwrite}
 use Rattle.sections.specs.Le.{bytes}
 use Rattle.sections.proofs.EditLaws.{overwrite-then}
 use Rattle.sections.proofs.LeLaws.{length-bytes}
 use Rattle.vertices.specs.Runs.{run}
 use Rattle.vertices.proofs.RunLaws.{length_run, numbers-length}
-use Rattle.halls.specs.List.{Model, record_bytes, model_record, write_geometries, write_model}
+use Rattle.halls.specs.Blocks.{ModelBlock, model_block}
+use Rattle.halls.specs.List.{Model, record_bytes, model_record, write_geometries, write_model, write}
+use Rattle.halls.specs.Reading.{or_empty}
 use Rattle.halls.specs.Inner.Measure.{whole_numbers}
 use Rattle.halls.specs.Inner.Small.{Wrote}
+use Rattle.halls.specs.Inner.View.{ListsOf, geometries_at, model_of, model_in}
+use Rattle.halls.proofs.read.EachLaws.{each-one}
+use Rattle.halls.proofs.read.ModelLaws.{mapping-numbers, pointer-numbers}
 use Rattle.halls.proofs.read.ViewLaws.{Record-length}
 
 module _ (m : Model) (mapping : List ℕ) (is : whole_numbers 2 mapping ≡ m.mapping) (even : length mapping / 2 * 2 ≡ length mapping) where
@@ -44,3 +51,14 @@ module _ (m : Model) (mapping : List ℕ) (is : whole_numbers 2 mapping ≡ m.ma
         ∙ overwrite-then out at (12 + length mapping) (head m.binding m.mask) geometries (head-length m.binding m.mask) (omega (arith, model-reach))
         ∙ ap (overwrite out at) parts,
   )
+
+-- of a block, by its lists
+pub model-parts : (s : Sections) (b : ModelBlock) (pointers : Option (List ℕ)) (mapping : List ℕ) → ListsOf s b pointers mapping
+    → record_bytes 1 (bytes 4 b.binding ++ (bytes 2 b.mask ++ run 2 (whole_numbers 2 mapping))) ++ write_geometries (geometries_at s (whole_numbers 2 mapping) (whole_numbers 8 (or_empty pointers)))
+    ≡ write_model (model_of s b)
+unfolding write_model model_record model_of
+model-parts s b pointers mapping l = rw (mapping-numbers s b pointers mapping l, pointer-numbers s b pointers mapping l)
+
+-- the model behind a pointer
+pub model_in_lem : (s : Sections) (pointer : ℕ) (raw : List ℕ) → resolved s pointer 0x30 ≡ Some raw → write_model (model_of s (model_block raw)) ≡ write (model_in s (resolved s pointer 0x30))
+model_in_lem s pointer raw e = sym (each-one write_model (model_of s (model_block raw))) ∙ ap (λ (o : Option (List ℕ)). write (model_in s o)) (sym e)

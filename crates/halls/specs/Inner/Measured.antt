@@ -1,7 +1,7 @@
 -- A list as checks 1 to 6 leave it: refused, or the pointers to its models and how long their records are. Private contracts speak of this.
 use Rattle.std.specs.Prelude.{Option, unwrap_or}
 use Rattle.std.specs.Prelude.{cond, ◌≡◌, List, ℕ, ◌^◌, ◌<◌, ◌≤◌, length}
-use Rattle.sections.specs.Address.{Sections, within_limit}
+use Rattle.sections.specs.Address.{Sections, within_limit, sections_of}
 use Rattle.sections.specs.Lists.{header_at}
 use Rattle.sections.specs.declared.lists.PointerListHeader.{PointerListHeader}
 use Rattle.halls.specs.List.{Model, write}
@@ -32,7 +32,7 @@ pub record RefusedAs {A : Type 0} (r : Reading A) (e : Refusal) : Type 0 where
 
 -- these are the models that are read
 pub record ListMeasured (s : Sections) (va : ℕ) (list : MeasuredList) : Type 0 where
-  pub sections_are : list.limited.reader.now ≡ s
+  pub sections_are : (sections_of list.limited.reader.now) ≡ s
   pub is : list_read s va ≡ read (models_at s (whole_numbers 8 list.pointers.now))
   pub long : length (write (models_at s (whole_numbers 8 list.pointers.now))) ≡ list.«length»
   pub few : geometries_in (models_at s (whole_numbers 8 list.pointers.now)) ≤ 16384

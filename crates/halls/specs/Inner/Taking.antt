@@ -15,6 +15,7 @@ use Rattle.halls.specs.Reading.{stored_in, vertices_of}
 use Rattle.halls.specs.Inner.View.{indices_seen, held_count}
 use Rattle.halls.specs.Inner.Walk.{model_units, geometry_units}
 use Rattle.halls.specs.declared.edit.judge_read.Taken.{Taken}
+use Rattle.halls.specs.declared.format.numbers.GeometryNumbers.{GeometryNumbers}
 use Rattle.halls.specs.declared.read.view.GeometryView.{GeometryView}
 use Rattle.halls.specs.declared.read.view.IndexView.{IndexView}
 
@@ -109,14 +110,14 @@ abbrev pub held_seen : Option IndexView → ℕ
 held_seen None = 0
 held_seen (Some v) = held_count v
 
--- the geometry of a view with both parts, as a hall's
-abbrev pub full_shown : GeometryView → VertexBuffer → List ℕ → Indices → FullGeometry
-full_shown v b content i = record {
-  shader = v.numbers.shader;
-  index_count = v.numbers.index_count;
-  triangle_count = v.numbers.triangle_count;
-  vertex_count = v.numbers.vertex_count;
-  stride = v.numbers.stride;
+-- the geometry of a view's numbers and both parts, as a hall's
+abbrev pub full_shown : GeometryNumbers → VertexBuffer → List ℕ → Indices → FullGeometry
+full_shown n b content i = record {
+  shader = n.shader;
+  index_count = n.index_count;
+  triangle_count = n.triangle_count;
+  vertex_count = n.vertex_count;
+  stride = n.stride;
   declaration = or_position_only b.declaration b.vertex_stride;
   vertices = record { layout = 0; stride = b.vertex_stride; count = b.vertex_count; content = content };
   indices = i;

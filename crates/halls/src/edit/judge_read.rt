@@ -97,7 +97,7 @@ fn whole_lowest(geometry: &WholeGeometry) -> u8
     if lowest != PASSED {
         return lowest;
     }
-    let numbers = geometry.view.numbers;
+    let numbers = geometry.numbers;
     let triangles = numbers.triangle_count as usize;
     items_lowest(&geometry.indices, triangles, numbers.vertex_count)
 }
@@ -108,7 +108,7 @@ fn numbers_lowest(geometry: &WholeGeometry) -> u8
 {
     let buffer = geometry.buffer;
     head_lowest(GeometryHead {
-        numbers: geometry.view.numbers,
+        numbers: geometry.numbers,
         declaration: buffer.or_position_only(),
         layout: 0,
         vertices_stride: buffer.vertex_stride,

@@ -1,5 +1,6 @@
 // Take in: the hall becomes what two sections hold behind the address of a LOD header.
 ghost use Rattle.std.specs.Prelude.{◌≡◌, ◌≤◌, length};
+ghost use Rattle.sections.specs.Address.{sections_of};
 ghost use Rattle.halls.specs.Calls.{take_in};
 ghost use Rattle.halls.specs.List.{each};
 ghost use Rattle.halls.specs.Step.{rewritten, Stepped};
@@ -17,7 +18,7 @@ use sections::{ResReader, zero};
 
 // The hall of the first n bytes becomes the one behind the header at `va`. The sections are looked at three times: to refuse by 1 to 6, to judge, and to write.
 pub fn take_in(hall: &mut [u8], n: usize, reader: &ResReader, va: u64) -> Result<u64, Refusal>
-    ensures { Stepped (take_in reader.now va) hall.old n result hall.new }
+    ensures { Stepped (take_in (sections_of reader.now) va) hall.old n result hall.new }
 {
     hall_check(hall, n)?;
     let found = measure_list(reader, va)?;

@@ -89,7 +89,7 @@ fn write_whole(out: &mut [u8], at: usize, geometry: &WholeGeometry) -> usize
     put_full(
         out,
         at,
-        geometry.view.numbers,
+        geometry.numbers,
         buffer.or_position_only(),
         vertices,
         &geometry.indices,

@@ -34,10 +34,12 @@ impl GeometryShape {
 }
 
 // The part of the image of a model's record with so many entries, in units of 16 bytes: its block, and for each entry a pointer and a two-byte number.
+// Not by `div_ceil`, which is a test more for each: the check passes a model without geometries in 80 instructions, by `div_ceil` in 87.
 pub fn model_units(entries: usize) -> usize
+    requires { entries < 2 ^ 63 }
     ensures { result ≡ model_units entries }
 {
-    3 + entries.div_ceil(2) + entries.div_ceil(8)
+    3 + (entries + 1) / 2 + (entries + 7) / 8
 }
 
 // A model's record with the entries of its mapping, or a geometry's four records.

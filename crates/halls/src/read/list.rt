@@ -1,5 +1,6 @@
 // The hall list call: the models and geometries behind a LOD header, written out as records.
 ghost use Rattle.std.specs.Prelude.{◌≡◌, length};
+ghost use Rattle.sections.specs.Address.{sections_of};
 ghost use Rattle.halls.specs.Listing.{hall_list};
 ghost use Rattle.halls.specs.Outcome.{answer_of, after};
 
@@ -12,8 +13,8 @@ use sections::ResReader;
 // The list behind the header at `va`, over the first bytes of `list`. Everything is looked at twice: once to refuse and to add up
 // the length, once to write. So a refusal writes nothing.
 pub fn hall_list(reader: &ResReader, va: u64, list: &mut [u8]) -> Result<u64, Refusal>
-    ensures answer { result ≡ answer_of (hall_list reader.now va (length list.old)) }
-    ensures bytes { list.new ≡ after (hall_list reader.now va (length list.old)) list.old }
+    ensures answer { result ≡ answer_of (hall_list (sections_of reader.now) va (length list.old)) }
+    ensures bytes { list.new ≡ after (hall_list (sections_of reader.now) va (length list.old)) list.old }
 {
     let found = measure_list(reader, va)?;
     room(7, list.len(), found.length)?;

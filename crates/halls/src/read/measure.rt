@@ -2,6 +2,7 @@
 // Its two loops refuse where those that judge and write go on, so they are over pointers, not over what resolves. They stay two: what a turn refuses and adds
 // differs, and one loop over a trait of it is longer.
 ghost use Rattle.std.specs.Prelude.{◌≡◌, ◌<◌, ◌≤◌, ◌+◌, ◌*◌, ◌^◌, length, IfOk, IfSome, MatchResult};
+ghost use Rattle.sections.specs.Address.{sections_of};
 ghost use Rattle.halls.specs.Reading.{read_models};
 ghost use Rattle.halls.specs.Inner.Measured.{ListMeasured, RefusedAs, header_or_empty, list_read};
 ghost use Rattle.halls.specs.Inner.Measure.{length_at, measured_geometries, measured_model};
@@ -36,7 +37,7 @@ pub fn measure_list<'b, 'a>(
     reader: &'b ResReader<'a>,
     va: u64,
 ) -> Result<MeasuredList<'b, 'a>, Refusal>
-    ensures { MatchResult result (ListMeasured reader.now va) (RefusedAs (list_read reader.now va)) }
+    ensures { MatchResult result (ListMeasured (sections_of reader.now) va) (RefusedAs (list_read (sections_of reader.now) va)) }
 {
     if !reader.within_limit() {
         return Err(Refusal::by(1));
@@ -55,7 +56,7 @@ pub fn measure_list<'b, 'a>(
 
 // The header at an address; where it does not resolve, that of an empty list.
 fn header_at(reader: &ResReader, va: u64) -> PointerListHeader
-    ensures { result ≡ header_or_empty reader.now va }
+    ensures { result ≡ header_or_empty (sections_of reader.now) va }
 {
     reader.read_pointer_list_header(va).unwrap_or_default()
 }
@@ -67,7 +68,7 @@ fn measure_geometries(
     before: usize,
 ) -> Result<Measured, Refusal>
     requires { before ≤ 16384 }
-    ensures value { result ≡ measured_geometries (read_entries reader.now before entries.entry) }
+    ensures value { result ≡ measured_geometries (read_entries (sections_of reader.now) before entries.entry) }
     ensures bound { IfOk result (λ m. (m.«length» ≤ m.count * 2 ^ 49) × (before + m.count ≤ 16384)) }
 {
     let mut total = Measured::default();
@@ -87,7 +88,7 @@ fn measure_geometries(
 // The models behind some pointers, from the first of a walk on.
 fn measure_models(reader: &ResReader, pointers: Pointers) -> Result<Measured, Refusal>
     requires { length pointers < 2 ^ 17 }
-    ensures { result ≡ measured_models (read_models reader.now 0 pointers.entry) }
+    ensures { result ≡ measured_models (read_models (sections_of reader.now) 0 pointers.entry) }
 {
     let mut total = Measured::default();
     for pointer in pointers {
@@ -104,7 +105,7 @@ fn measure_models(reader: &ResReader, pointers: Pointers) -> Result<Measured, Re
 // The model behind a pointer.
 fn measure_model(reader: &ResReader, pointer: u64, before: usize) -> Result<Measured, Refusal>
     requires { before ≤ 16384 }
-    ensures value { result ≡ measured_model (model_at reader.now before pointer) }
+    ensures value { result ≡ measured_model (model_at (sections_of reader.now) before pointer) }
     ensures bound { IfOk result (λ m. (m.«length» ≤ m.count * 2 ^ 49 + 2 ^ 20) × (before + m.count ≤ 16384)) }
 {
     let raw = reader.resolve(pointer, 0x30).ok_or(Refusal::by(3))?;
@@ -119,7 +120,7 @@ fn measure_model(reader: &ResReader, pointer: u64, before: usize) -> Result<Meas
 
 // The bytes of the geometry behind a pointer, if its block resolves.
 fn length_at(reader: &ResReader, shader: u16, pointer: u64) -> Option<u64>
-    ensures value { result ≡ length_at reader.now shader pointer }
+    ensures value { result ≡ length_at (sections_of reader.now) shader pointer }
     ensures bound { IfSome result (λ n. n < 2 ^ 49) }
 {
     let raw = reader.resolve(pointer, 0x98)?;

@@ -1,7 +1,8 @@
 // Parts of a geometry as they lie in the sections, seen as what is read of them. Their bytes are as long as the view says.
 ghost use Rattle.std.specs.Prelude.{◌≡◌, ◌<◌, ◌^◌, length};
 
-use crate::read::view::{GeometryView, IndexView, held};
+use crate::format::numbers::GeometryNumbers;
+use crate::read::view::{IndexView, held};
 use std::marker::Model;
 use vertices::VertexBuffer;
 
@@ -40,7 +41,7 @@ impl<'a> StoredIndices<'a> {
 // A geometry that has vertices and indices, as a hall has it.
 #[derive(Drop)]
 pub struct WholeGeometry<'a> {
-    pub view: GeometryView,
+    pub numbers: GeometryNumbers,
     pub buffer: VertexBuffer,
     pub content: &'a [u8],
     pub indices: StoredIndices<'a>,
@@ -53,7 +54,7 @@ impl<'a> Model for WholeGeometry<'a> {
 
     ghost Value = { FullGeometry };
 
-    ghost view = { λ g. full_shown g.view g.buffer g.content.now g.indices };
+    ghost view = { λ g. full_shown g.numbers g.buffer g.content.now g.indices };
 
     ghost invariant = { λ g. length g.content.now < 2 ^ 31 };
 }

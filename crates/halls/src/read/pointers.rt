@@ -1,6 +1,7 @@
 // Lists behind a pointer: the bytes of their elements.
 ghost use Rattle.std.specs.Prelude.{◌≡◌};
 ghost use Rattle.std.specs.Option.{option_copied};
+ghost use Rattle.sections.specs.Address.{sections_of};
 ghost use Rattle.halls.specs.Inner.Measure.{list_bytes};
 
 use sections::ResReader;
@@ -13,7 +14,7 @@ pub fn list_bytes<'a>(
     count: u32,
     pointer: u64,
 ) -> Option<&'a [u8]>
-    ensures { option_copied result ≡ list_bytes reader.now width count pointer }
+    ensures { option_copied result ≡ list_bytes (sections_of reader.now) width count pointer }
 {
     if count == 0 || pointer == 0 {
         return Some(&[]);

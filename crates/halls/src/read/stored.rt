@@ -2,6 +2,7 @@
 ghost use Rattle.std.specs.Prelude.{◌≡◌, ◌<◌, ◌*◌, ◌/◌, ◌^◌, length};
 ghost use Rattle.std.specs.Option.{option_copied};
 ghost use Rattle.std.specs.Iterator.{YieldsFirst, item_count};
+ghost use Rattle.sections.specs.Address.{sections_of};
 ghost use Rattle.halls.specs.Blocks.{model_block};
 ghost use Rattle.halls.specs.Inner.Measure.{list_bytes, whole_numbers};
 ghost use Rattle.halls.specs.Inner.Taking.{as_halls};
@@ -25,13 +26,14 @@ pub struct StoredGeometry<'b, 'a> {
 }
 
 impl<'b, 'a> Model for StoredGeometry<'b, 'a> {
+    ghost use Rattle.sections.specs.Address.{sections_of};
     ghost use Rattle.halls.specs.Blocks.{geometry_block};
     ghost use Rattle.halls.specs.List.{Geometry};
     ghost use Rattle.halls.specs.Reading.{geometry_of};
 
     ghost Value = { Geometry };
 
-    ghost view = { λ g. geometry_of g.limited.reader.now g.shader (geometry_block g.raw.now) };
+    ghost view = { λ g. geometry_of (sections_of g.limited.reader.now) g.shader (geometry_block g.raw.now) };
 }
 
 impl<'b, 'a> StoredGeometry<'b, 'a> {
@@ -59,15 +61,16 @@ pub struct HeldGeometry<'b, 'a> {
 }
 
 impl<'b, 'a> Model for HeldGeometry<'b, 'a> {
+    ghost use Rattle.sections.specs.Address.{sections_of};
     ghost use Rattle.halls.specs.Inner.Taking.{geometry_shown};
     ghost use Rattle.halls.specs.Inner.View.{ViewHeld};
     ghost use Rattle.halls.specs.List.{Geometry};
 
     ghost Value = { Geometry };
 
-    ghost view = { λ g. geometry_shown g.limited.reader.now g.view };
+    ghost view = { λ g. geometry_shown (sections_of g.limited.reader.now) g.view };
 
-    ghost invariant = { λ g. ViewHeld g.limited.reader.now g.view };
+    ghost invariant = { λ g. ViewHeld (sections_of g.limited.reader.now) g.view };
 }
 
 impl<'b, 'a> HeldGeometry<'b, 'a> {
@@ -79,7 +82,8 @@ impl<'b, 'a> HeldGeometry<'b, 'a> {
         Some(StoredIndices { view, bytes })
     }
 
-    // As a hall has it, where it has vertices and indices.
+    // As a hall has it, where it has vertices and indices. Inline, so that its parts are not copied for each geometry.
+    #[inline(always)]
     pub fn whole(&self) -> Option<WholeGeometry<'a>>
         ensures { result ≡ as_halls self.now }
     {
@@ -87,7 +91,7 @@ impl<'b, 'a> HeldGeometry<'b, 'a> {
         let indices = self.indices()?;
         let content = vertices_at(self.limited.reader, buffer);
         Some(WholeGeometry {
-            view: self.view,
+            numbers: self.view.numbers,
             buffer,
             content,
             indices,
@@ -105,12 +109,13 @@ pub struct Geometries<'b, 'a> {
 
 impl<'b, 'a> Model for Geometries<'b, 'a> {
     ghost use Rattle.std.specs.Prelude.{List};
+    ghost use Rattle.sections.specs.Address.{sections_of};
     ghost use Rattle.halls.specs.Inner.View.{geometries_behind};
     ghost use Rattle.halls.specs.List.{Geometry};
 
     ghost Value = { List Geometry };
 
-    ghost view = { λ g. geometries_behind g.limited.reader.now g.entries };
+    ghost view = { λ g. geometries_behind (sections_of g.limited.reader.now) g.entries };
 }
 
 impl<'b, 'a> Iterator for Geometries<'b, 'a> {
@@ -143,9 +148,10 @@ pub struct ModelLists<'a> {
 }
 
 impl<'a> ModelLists<'a> {
-    // Those of a model's 0x30 bytes.
+    // Those of a model's 0x30 bytes. Inline: called for each model, and a call takes longer than what it does for one without geometries.
+    #[inline(always)]
     pub fn of(reader: &ResReader<'a>, raw: &[u8]) -> Self
-        ensures { ListsOf reader.now (model_block raw.now) (option_copied result.pointers) result.mapping.now }
+        ensures { ListsOf (sections_of reader.now) (model_block raw.now) (option_copied result.pointers) result.mapping.now }
     {
         let count = u32::from(u16_le(raw, 0x10));
         ModelLists {
@@ -165,15 +171,16 @@ pub struct StoredModel<'b, 'a> {
 
 impl<'b, 'a> Model for StoredModel<'b, 'a> {
     ghost use Rattle.std.specs.Option.{option_copied};
+    ghost use Rattle.sections.specs.Address.{sections_of};
     ghost use Rattle.halls.specs.Blocks.{model_block};
     ghost use Rattle.halls.specs.Inner.View.{ListsOf, model_of};
     ghost use Rattle.halls.specs.List.{Model};
 
     ghost Value = { Model };
 
-    ghost view = { λ m. model_of m.limited.reader.now (model_block m.raw.now) };
+    ghost view = { λ m. model_of (sections_of m.limited.reader.now) (model_block m.raw.now) };
 
-    ghost invariant = { λ m. ListsOf m.limited.reader.now (model_block m.raw.now) (option_copied m.lists.pointers) m.lists.mapping.now };
+    ghost invariant = { λ m. ListsOf (sections_of m.limited.reader.now) (model_block m.raw.now) (option_copied m.lists.pointers) m.lists.mapping.now };
 }
 
 impl<'b, 'a> StoredModel<'b, 'a> {
@@ -216,17 +223,18 @@ pub struct Models<'b, 'a> {
 
 impl<'b, 'a> Model for Models<'b, 'a> {
     ghost use Rattle.std.specs.Prelude.{List};
+    ghost use Rattle.sections.specs.Address.{sections_of};
     ghost use Rattle.halls.specs.Inner.View.{models_at};
     ghost use Rattle.halls.specs.List.{Model};
 
     ghost Value = { List Model };
 
-    ghost view = { λ m. models_at m.limited.reader.now m.pointers };
+    ghost view = { λ m. models_at (sections_of m.limited.reader.now) m.pointers };
 }
 
 impl<'b, 'a> Models<'b, 'a> {
     pub fn new(limited: &Limited<'b, 'a>, pointers: &'a [u8]) -> Self
-        ensures { result ≡ models_at limited.now.reader.now (whole_numbers 8 pointers.now) }
+        ensures { result ≡ models_at (sections_of limited.now.reader.now) (whole_numbers 8 pointers.now) }
     {
         Models {
             limited: *limited,
@@ -243,6 +251,8 @@ impl<'b, 'a> Iterator for Models<'b, 'a> {
     ghost remaining = { item_count (λ rest. rest) };
 
     // Not by `find_map`, for the reason given at the geometries.
+    // Inline, for the same reason as the lists of a model.
+    #[inline(always)]
     fn next(&mut self) -> Option<StoredModel<'b, 'a>> {
         while let Some(pointer) = self.pointers.next() {
             if let Some(raw) = self.limited.reader.resolve(pointer, 0x30) {

@@ -1,6 +1,6 @@
 // A geometry as numbers and places: what both passes of the hall list call need of it.
 ghost use Rattle.std.specs.Prelude.{◌≡◌, ◌<◌, ◌^◌};
-ghost use Rattle.sections.specs.Address.{resolved};
+ghost use Rattle.sections.specs.Address.{resolved, sections_of};
 ghost use Rattle.halls.specs.Blocks.{index_block, geometry_block};
 ghost use Rattle.halls.specs.Inner.View.{width_of, view_at, sized_view, block_view, index_view_in, index_bytes, bytes_seen};
 ghost use Rattle.halls.specs.Inner.View.{geometry_view, view_length, declaration_length, buffer_length, indices_length, held_count};
@@ -59,7 +59,7 @@ impl IndexWidth {
 
 // The view of a geometry's 0x98 bytes.
 pub fn geometry_view(reader: &ResReader, raw: &[u8], shader: u16) -> GeometryView
-    ensures { result ≡ geometry_view reader.now shader (geometry_block raw.now) }
+    ensures { result ≡ geometry_view (sections_of reader.now) shader (geometry_block raw.now) }
 {
     let stored = u16_le(raw, 0x60);
     let stride = u16_le(raw, 0x70);
@@ -94,7 +94,7 @@ fn vertex_count(stored: u16, buffer: Option<VertexBuffer>) -> u16
 }
 
 fn index_view(reader: &ResReader, va: u64) -> Option<IndexView>
-    ensures { result ≡ index_view_in reader.now (resolved reader.now va 0x60) }
+    ensures { result ≡ index_view_in (sections_of reader.now) (resolved (sections_of reader.now) va 0x60) }
 {
     let raw = reader.resolve(va, 0x60)?;
     Some(block_view(reader, raw))
@@ -102,7 +102,7 @@ fn index_view(reader: &ResReader, va: u64) -> Option<IndexView>
 
 // The index block's two forms, else its count with no indices.
 fn block_view(reader: &ResReader, raw: &[u8]) -> IndexView
-    ensures { result ≡ block_view reader.now (index_block raw.now) }
+    ensures { result ≡ block_view (sections_of reader.now) (index_block raw.now) }
 {
     let count = u32_le(raw, 0x08);
     let legacy = view_at(reader, IndexWidth::Two, count, u64_le(raw, 0x10));
@@ -114,14 +114,14 @@ fn block_view(reader: &ResReader, raw: &[u8]) -> IndexView
 }
 
 fn sized_view(reader: &ResReader, size: u16, count: u32, pointer: u64) -> Option<IndexItems>
-    ensures { result ≡ sized_view reader.now size count pointer }
+    ensures { result ≡ sized_view (sections_of reader.now) size count pointer }
 {
     let width = IndexWidth::of(size)?;
     view_at(reader, width, count, pointer)
 }
 
 fn view_at(reader: &ResReader, width: IndexWidth, count: u32, pointer: u64) -> Option<IndexItems>
-    ensures { result ≡ view_at reader.now width count pointer }
+    ensures { result ≡ view_at (sections_of reader.now) width count pointer }
 {
     if pointer == 0 || count == 0 {
         return None;
@@ -132,21 +132,23 @@ fn view_at(reader: &ResReader, width: IndexWidth, count: u32, pointer: u64) -> O
 
 // The bytes of a view's indices, none where it has none.
 pub fn indices_at<'a>(reader: &ResReader<'a>, view: IndexView) -> &'a [u8]
-    ensures { result.now ≡ bytes_seen reader.now view }
+    ensures { result.now ≡ bytes_seen (sections_of reader.now) view }
 {
     // Not by `and_then`: of a closure that captures a reader the check infers no result, and the proof did not close.
     let Some(items) = view.items else {
         return &[];
     };
     let size = view.count as usize * items.width.bytes();
-    reader.bytes_of(items.place, size).unwrap_or(&[])
+    reader.bytes_of(Some(items.place), size).unwrap_or(&[])
 }
 
 // The bytes of a buffer's vertices.
 pub fn vertices_at<'a>(reader: &ResReader<'a>, buffer: VertexBuffer) -> &'a [u8]
-    ensures { result.now ≡ content_at reader.now buffer }
+    ensures { result.now ≡ content_at (sections_of reader.now) buffer }
 {
-    reader.bytes_of(buffer.data, buffer.size()).unwrap_or(&[])
+    reader
+        .bytes_of(Some(buffer.data), buffer.size())
+        .unwrap_or(&[])
 }
 
 // The bytes of a geometry's records.

@@ -5,6 +5,7 @@
 // A match that writes is no `map_or`: tried where a taken geometry is written, its closure captures `out`, and neither the room nor the result was proved.
 ghost use Rattle.std.specs.Prelude.{◌≡◌, ◌≤◌, ◌+◌, length};
 ghost use Rattle.sections.specs.Edit.{overwrite};
+ghost use Rattle.sections.specs.Address.{sections_of};
 ghost use Rattle.halls.specs.List.{optional, indices_record, write_geometry, write_geometries, write_model, write};
 ghost use Rattle.halls.specs.Inner.Small.{Wrote};
 ghost use Rattle.halls.specs.Inner.View.{BufferHeld, stored_record, buffer_records};
@@ -64,8 +65,8 @@ fn write_geometry(out: &mut [u8], at: usize, geometry: &HeldGeometry) -> usize
 }
 
 fn write_buffer(out: &mut [u8], at: usize, limited: &Limited, buffer: Option<VertexBuffer>) -> usize
-    requires { (BufferHeld limited.now.reader.now buffer) × (at + buffer_length buffer ≤ length out.old) }
-    ensures { (result ≡ at + buffer_length buffer) × (out.new ≡ overwrite out.old at (buffer_records limited.now.reader.now buffer)) }
+    requires { (BufferHeld (sections_of limited.now.reader.now) buffer) × (at + buffer_length buffer ≤ length out.old) }
+    ensures { (result ≡ at + buffer_length buffer) × (out.new ≡ overwrite out.old at (buffer_records (sections_of limited.now.reader.now) buffer)) }
 {
     match buffer {
         Some(b) => {

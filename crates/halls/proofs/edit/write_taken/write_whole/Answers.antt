@@ -20,8 +20,8 @@ returns c =
     let a = c.args in
     let view = c.geometry.inside in
     let long = ap (λ (g : FullGeometry). length (write_geometry (listed_geometry g))) c.geometry.view_is in
-    let full = full_shown view.view view.buffer view.content.now view.indices in
-    let same = ap (λ (d : VertexDeclaration). overwrite a.out.now a.at (four_records view.view.numbers d full.vertices view.indices)) c.or_position_only.ensures in (
+    let full = full_shown view.numbers view.buffer view.content.now view.indices in
+    let same = ap (λ (d : VertexDeclaration). overwrite a.out.now a.at (four_records view.numbers d full.vertices view.indices)) c.or_position_only.ensures in (
       omega (arith, sym long, whole-length full, c.held.ensures.0),
       c.put_full.ensures ∙ same ∙ ap (λ (g : FullGeometry). overwrite a.out.now a.at (write_geometry (listed_geometry g))) c.geometry.view_is,
     )

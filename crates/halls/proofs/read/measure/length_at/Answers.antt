@@ -1,5 +1,6 @@
 -- The length of the view of the bytes that were found, which is that of the records.
 use Rattle.std.proofs.Common.{rules, ap, ◌∙◌, ◌≡◌, length}
+use Rattle.sections.specs.Address.{sections_of}
 use Rattle.halls.specs.Blocks.{geometry_block}
 use Rattle.halls.specs.List.{write_geometry}
 use Rattle.halls.specs.Reading.{geometry_of}
@@ -15,5 +16,5 @@ returns-in_err-raw-clause-value c = rw (← c.resolve.ensures) (search rules)
 pub returns-clause-value : goal.returns-clause-value
 unfolding length_at
 returns-clause-value c =
-    let e : c.view_length.result ≡ length (write_geometry (geometry_of c.args.reader.now c.args.shader (geometry_block c.in_ok-raw.raw.now))) = c.view_length.ensures.0 ∙ ap view_length c.geometry_view.ensures ∙ view_length_lem _ _ _ in
+    let e : c.view_length.result ≡ length (write_geometry (geometry_of (sections_of c.args.reader.now) c.args.shader (geometry_block c.in_ok-raw.raw.now))) = c.view_length.ensures.0 ∙ ap view_length c.geometry_view.ensures ∙ view_length_lem _ _ _ in
     rw (← c.resolve.ensures, e) (search rules)

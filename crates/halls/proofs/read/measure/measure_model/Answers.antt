@@ -1,6 +1,6 @@
 -- Refused by its block or its pointer list; else by its geometries and its record.
 use Rattle.std.proofs.Common.{rules, Err, Some, Option, arith, refl, sym, ap, subst, ◌∙◌, ◌≡◌, List, ℕ, length}
-use Rattle.sections.specs.Address.{resolved}
+use Rattle.sections.specs.Address.{resolved, sections_of}
 use Rattle.halls.specs.Inner.Measure.{measured_geometries, measured_model, model_at, read_entries, whole_numbers, with_record}
 use Rattle.halls.specs.Blocks.{model_block}
 use Rattle.halls.specs.declared.read.entries.Entry.{Entry}
@@ -13,17 +13,17 @@ use Rattle.halls.proofs.read.measure.measure_model.Goals as goal
 
 -- the block resolved, with these lists
 module _ (c : After-measure_geometries) where
-  there : resolved c.args.reader.now c.args.pointer 0x30 ≡ Some c.in_ok-raw.raw.now
+  there : resolved (sections_of c.args.reader.now) c.args.pointer 0x30 ≡ Some c.in_ok-raw.raw.now
   there = bytes_found c.resolve.result _ c.resolve.ensures _ (sym c.ok_or.ensures.value ∙ c.in_ok-raw.was)
 
-  lists : ListsOf c.args.reader.now (model_block c.in_ok-raw.raw.now) (Some c.in_ok-pointers.pointers.now) c.of-lists.result.mapping.now
+  lists : ListsOf (sections_of c.args.reader.now) (model_block c.in_ok-raw.raw.now) (Some c.in_ok-pointers.pointers.now) c.of-lists.result.mapping.now
   lists =
       let found = bytes_found c.of-lists.result.pointers _ refl _ (sym c.ok_or-2.ensures.value ∙ c.in_ok-pointers.was) in
-      subst (λ (o : Option (List ℕ)). ListsOf c.args.reader.now (model_block c.in_ok-raw.raw.now) o c.of-lists.result.mapping.now) found c.of-lists.ensures
+      subst (λ (o : Option (List ℕ)). ListsOf (sections_of c.args.reader.now) (model_block c.in_ok-raw.raw.now) o c.of-lists.result.mapping.now) found c.of-lists.ensures
 
-  measured : with_record (length c.of-lists.result.mapping.now) c.measure_geometries.result ≡ measured_model (model_at c.args.reader.now c.args.before c.args.pointer)
+  measured : with_record (length c.of-lists.result.mapping.now) c.measure_geometries.result ≡ measured_model (model_at (sections_of c.args.reader.now) c.args.before c.args.pointer)
   measured =
-      let s = c.args.reader.now in
+      let s = (sections_of c.args.reader.now) in
       let read = ap (λ (es : List Entry). read_entries s c.args.before es) c.new.ensures
       ∙ entries_as_read s (whole_numbers 8 c.in_ok-pointers.pointers.now) c.args.before (whole_numbers 2 c.of-lists.result.mapping.now) in
       model-measured s c.args.before _ _ there _ _ lists (c.measure_geometries.ensures.value ∙ ap measured_geometries read)
@@ -36,7 +36,7 @@ returns-in_err-raw-clause-value c =
 
 pub returns-in_err-pointers-clause-value : goal.returns-in_err-pointers-clause-value
 returns-in_err-pointers-clause-value c =
-    let s = c.args.reader.now in
+    let s = (sections_of c.args.reader.now) in
     let e : c.from_residual-in_err-pointers.result ≡ Err c.in_err-pointers.field-0.0 = search rules in
     let there = bytes_found c.resolve.result _ c.resolve.ensures _ (sym c.ok_or.ensures.value ∙ c.in_ok-raw.was) in
     let no = bytes_absent c.of-lists.result.pointers _ refl _ (sym c.ok_or-2.ensures.value ∙ c.in_err-pointers.was) in

@@ -2,7 +2,7 @@
 use Rattle.std.proofs.Common.{rules, Bool, true, false, Option, None, Some, ℕ, ◌≡◌, ◌∙◌, refl, sym, ap}
 use Rattle.std.specs.Prelude.{cond, eqb}
 use Rattle.std.specs.Option.{option_and_then}
-use Rattle.sections.specs.Address.{Sections}
+use Rattle.sections.specs.Address.{Sections, sections_of}
 use Rattle.halls.specs.Inner.View.{width_of, view_at, sized_view}
 use Rattle.halls.specs.declared.read.view.IndexWidth.{IndexWidth}
 use Rattle.halls.specs.declared.read.view.IndexWidth.TheVariants.{Two, Four}
@@ -21,8 +21,8 @@ module _ (s : Sections) (count pointer : ℕ) where
 pub returns-in_err-width : goal.returns-in_err-width
 returns-in_err-width c =
     let none : c.from_residual.result ≡ None = search rules in
-    none ∙ ap (option_and_then (λ (w : IndexWidth). view_at c.args.reader.now w c.args.count c.args.pointer)) (sym c.in_err-width.was) ∙ by_width c.args.reader.now c.args.count c.args.pointer c.args.size c.of.ensures
+    none ∙ ap (option_and_then (λ (w : IndexWidth). view_at (sections_of c.args.reader.now) w c.args.count c.args.pointer)) (sym c.in_err-width.was) ∙ by_width (sections_of c.args.reader.now) c.args.count c.args.pointer c.args.size c.of.ensures
 
 pub returns : goal.returns
 returns c =
-    c.view_at.ensures ∙ ap (option_and_then (λ (w : IndexWidth). view_at c.args.reader.now w c.args.count c.args.pointer)) (sym c.in_ok-width.was) ∙ by_width c.args.reader.now c.args.count c.args.pointer c.args.size c.of.ensures
+    c.view_at.ensures ∙ ap (option_and_then (λ (w : IndexWidth). view_at (sections_of c.args.reader.now) w c.args.count c.args.pointer)) (sym c.in_ok-width.was) ∙ by_width (sections_of c.args.reader.now) c.args.count c.args.pointer c.args.size c.of.ensures

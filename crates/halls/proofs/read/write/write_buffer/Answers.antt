@@ -4,6 +4,7 @@ use native.Mathlib.Omega.{arith}
 use lib.ListN.{length}
 use Rattle.sections.specs.Edit.{overwrite}
 use Rattle.sections.proofs.EditLaws.{overwrite-none}
+use Rattle.sections.specs.Address.{sections_of}
 use Rattle.halls.specs.Reading.{vertices_of}
 use Rattle.halls.specs.Inner.View.{BufferHeld, buffer_length, buffer_records}
 use Rattle.halls.proofs.read.ViewLaws.{buffer_written}
@@ -13,7 +14,7 @@ pub put_vertices-requires : goal.put_vertices-requires
 unfolding vertices_of
 put_vertices-requires c =
     let told = c.in-Some.is in
-    let h = subst (BufferHeld c.args.limited.now.reader.now) told c.requires.0 in
+    let h = subst (BufferHeld (sections_of c.args.limited.now.reader.now)) told c.requires.0 in
     let long = ap length c.vertices_at-content.ensures in
     let stored = c.write_stored-next.ensures.0 in
     (omega (arith, long, h.0, stored, ap buffer_length told, c.requires.1), omega (arith, long, h.1))
@@ -21,7 +22,7 @@ put_vertices-requires c =
 pub returns-in-Some : goal.returns-in-Some
 unfolding vertices_of
 returns-in-Some c =
-    let s = c.args.limited.now.reader.now in
+    let s = (sections_of c.args.limited.now.reader.now) in
     let h = subst (BufferHeld s) c.in-Some.is c.requires.0 in
     let content = c.vertices_at-content.ensures in
     let stored = c.write_stored-next.ensures in

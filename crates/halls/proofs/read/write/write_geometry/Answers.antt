@@ -1,6 +1,6 @@
 -- Kind 2, the buffer's records and the indices', one behind the other.
 use Rattle.std.proofs.Common.{arith, ap, sym, length, List, ℕ, Option, ◌∙◌, ◌≡◌}
-use Rattle.sections.specs.Address.{Sections}
+use Rattle.sections.specs.Address.{Sections, sections_of}
 use Rattle.halls.specs.List.{Geometry, Indices, optional, indices_record}
 use Rattle.halls.specs.Inner.Taking.{geometry_shown}
 use Rattle.halls.specs.declared.read.view.GeometryView.{GeometryView}
@@ -14,13 +14,13 @@ use Rattle.halls.proofs.read.write.write_geometry.Goals as goal
 pub put_geometry-requires : goal.put_geometry-requires
 unfolding view_length
 put_geometry-requires c =
-    let long = shown_length c.geometry.inside.limited.reader.now c.geometry.inside.view c.geometry.view_is c.geometry.invariant.buffer in
+    let long = shown_length (sections_of c.geometry.inside.limited.reader.now) c.geometry.inside.view c.geometry.view_is c.geometry.invariant.buffer in
     omega (arith, c.requires, long)
 
 pub write_buffer-next-requires : goal.write_buffer-next-requires
 unfolding view_length
 write_buffer-next-requires c =
-    let long = shown_length c.geometry.inside.limited.reader.now c.geometry.inside.view c.geometry.view_is c.geometry.invariant.buffer in
+    let long = shown_length (sections_of c.geometry.inside.limited.reader.now) c.geometry.inside.view c.geometry.view_is c.geometry.invariant.buffer in
     (c.geometry.invariant.buffer, omega (arith, c.requires, long))
 
 -- the indices' record, as the view's
@@ -31,7 +31,7 @@ module _ (s : Sections) (v : GeometryView) {g : Geometry} {i : Option Indices} (
 pub write_indices-requires : goal.write_indices-requires
 unfolding view_length
 write_indices-requires c =
-    let s = c.geometry.inside.limited.reader.now in
+    let s = (sections_of c.geometry.inside.limited.reader.now) in
     let view = c.geometry.inside.view in
     let long = shown_length s view c.geometry.view_is c.geometry.invariant.buffer in
     let one = ap length (last s view c.geometry.view_is c.indices.ensures) ∙ index_record-length s view.indices in
@@ -41,7 +41,7 @@ pub returns : goal.returns
 unfolding view_length
 returns c =
     let a = c.args in
-    let s = c.geometry.inside.limited.reader.now in
+    let s = (sections_of c.geometry.inside.limited.reader.now) in
     let view = c.geometry.inside.view in
     let held = c.geometry.invariant.buffer in
     let long = shown_length s view c.geometry.view_is held in

@@ -8,7 +8,7 @@ returns-then-va-eq0 c = sym (located-zero _ _ _ c.if-va-eq0.true)
 
 pub returns-then-va-eq-GRAPHICS_BASE : goal.returns-then-va-eq-GRAPHICS_BASE
 returns-then-va-eq-GRAPHICS_BASE c =
-    rw (c.then_some.ensures, c.ends_inside.ensures, located-graphics _ _ _ c.if-va-eq0.false (in_graphics _ c.if-va-eq-GRAPHICS_BASE.true), ← c.self.view_is) (some_if _ _)
+    rw (c.then_some.ensures, c.ends_inside.ensures, located-graphics _ _ _ c.if-va-eq0.false (in_graphics _ c.if-va-eq-GRAPHICS_BASE.true)) (some_if _ _)
 
 pub returns-then-va-eq-SYSTEM_BASE : goal.returns-then-va-eq-SYSTEM_BASE
 returns-then-va-eq-SYSTEM_BASE c =
@@ -16,7 +16,6 @@ returns-then-va-eq-SYSTEM_BASE c =
       c.then_some-then-va-eq-SYSTEM_BASE.ensures,
       c.ends_inside-then-va-eq-SYSTEM_BASE.ensures,
       located-system _ _ _ c.if-va-eq0.false (λ e. c.if-va-eq-GRAPHICS_BASE.false (graphics-test _ e)) (in_system _ c.if-va-eq-SYSTEM_BASE.true),
-      ← c.self.view_is,
     )
     (some_if _ _)
 

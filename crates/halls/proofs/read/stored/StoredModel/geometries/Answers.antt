@@ -5,6 +5,7 @@ use Rattle.halls.specs.List.{Model}
 use Rattle.halls.specs.Reading.{or_empty}
 use Rattle.halls.specs.Inner.Measure.{whole_numbers}
 use Rattle.std.specs.Option.{option_copied}
+use Rattle.sections.specs.Address.{sections_of}
 use Rattle.vertices.proofs.RunLaws.{numbers-length}
 use Rattle.halls.proofs.read.ModelLaws.{pointers_few}
 use Rattle.halls.proofs.read.StoredLaws.{entries-length, found_or_empty, geometries_few, model_geometries}
@@ -13,17 +14,17 @@ use Rattle.halls.proofs.read.stored.StoredModel.geometries.Goals as goal
 
 -- the bytes of the pointers
 found : (c : After-unwrap_or) → c.unwrap_or.result.now ≡ or_empty (option_copied c.self.inside.lists.pointers)
-found c = ap (λ (b : Bor (List ℕ)). b.now) c.unwrap_or.ensures ∙ found_or_empty c.self.inside.limited.reader.now c.self.inside.lists.pointers _ refl
+found c = ap (λ (b : Bor (List ℕ)). b.now) c.unwrap_or.ensures ∙ found_or_empty (sections_of c.self.inside.limited.reader.now) c.self.inside.lists.pointers _ refl
 
 pub returns-clause-those : goal.returns-clause-those
 returns-clause-those c =
-    let s = c.self.inside.limited.reader.now in
+    let s = (sections_of c.self.inside.limited.reader.now) in
     let k = (goal.at.returns-clause-those c).After-unwrap_or in
     ap (geometries_behind s) c.new.ensures ∙ model_geometries s _ _ _ c.self.invariant (found k) ∙ ap (λ (m : Model). m.geometries) c.self.view_is
 
 pub returns-clause-few : goal.returns-clause-few
 returns-clause-few c =
-    let s = c.self.inside.limited.reader.now in
+    let s = (sections_of c.self.inside.limited.reader.now) in
     let k = (goal.at.returns-clause-few c).After-unwrap_or in
     let pointers = c.unwrap_or.result.now in
     let many = entries-length s (whole_numbers 2 c.self.inside.lists.mapping.now) (whole_numbers 8 pointers) in
