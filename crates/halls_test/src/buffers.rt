@@ -7,13 +7,16 @@ pub const SECTION: usize = 589_824;
 
 pub const HALL: usize = 1_494_016;
 
-// What a row's bytes say of a section or hall, over zeros: first e runs of 32 bytes, then how it begins. The buffer is the caller's: an array as
-// answer would be copied, and its room on the stack taken twice, where a program is compiled without optimisation.
+// What a row's bytes say of a section or hall, over zeros: first e runs of 32 bytes, then how it begins; of 100 runs or more, nothing. The buffer is
+// the caller's: an array as answer would be copied, and its room on the stack taken twice, where a program is compiled without optimisation.
 pub fn put_row(b: &mut [u8], row: Row) {
-    let end = (row.e as usize).saturating_mul(32);
-    sections::copy_into(b, 0, rest(row.data, end));
-    for run in first(row.data, end).chunks_exact(32) {
-        put_run(b, run);
+    let runs = row.e as usize;
+    if runs < 100 {
+        let end = runs * 32;
+        sections::copy_into(b, 0, rest(row.data, end));
+        for run in first(row.data, end).chunks_exact(32) {
+            put_run(b, run);
+        }
     }
 }
 

@@ -20,6 +20,7 @@ pub fn check_row(out: &mut impl Write, row: Row) -> io::Result<()> {
 }
 
 // b bytes, at most 589,824, made by e runs, are lent.
+#[inline(never)]
 pub fn long_check_row(out: &mut impl Write, row: Row) -> io::Result<()> {
     let mut list = zeros::<SECTION>();
     put_row(&mut list, row);

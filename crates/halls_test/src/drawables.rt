@@ -20,7 +20,9 @@ pub fn list_row(out: &mut impl Write, row: Row) -> io::Result<()> {
     outcome(out, answer, &list)
 }
 
-// A system section of a bytes, at most 589,824, made by e runs, and an empty graphics section.
+// A system section of a bytes, at most 589,824, made by e runs, and an empty graphics section. Not inline, here and at the other rows with
+// long buffers: in one frame the buffers of all of them would stand beside each other on the stack.
+#[inline(never)]
 pub fn long_row(out: &mut impl Write, row: Row) -> io::Result<()> {
     let mut section = zeros::<SECTION>();
     put_row(&mut section, row);

@@ -31,6 +31,7 @@ pub fn find_row(out: &mut impl Write, finder: Finder, row: Row) -> io::Result<()
 }
 
 // In a hall made by e runs.
+#[inline(never)]
 pub fn crowded_row(out: &mut impl Write, finder: Finder, row: Row) -> io::Result<()> {
     let mut b = zeros::<HALL>();
     put_row(&mut b, row);

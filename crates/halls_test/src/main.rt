@@ -12,7 +12,7 @@ mod finds;
 use finds::Finder;
 use replay::Call;
 use std::io::{self, BufReader, BufWriter, Write};
-use testing::{Row, each_row};
+use testing::{ROW_WITH_DATA, Row, each_row};
 
 // The kinds of calls are those of `replay`. This is the one place that reads the others' numbers: an enum would be a second table beside it.
 fn run(out: &mut impl Write, row: Row) -> io::Result<()> {
@@ -38,7 +38,7 @@ fn main(rt: HostRuntime) -> io::Result<()> {
     let alloc = rt.alloc();
     let mut input = BufReader::new(alloc, rt.reader())?;
     let mut out = BufWriter::new(alloc, io::writer(&rt))?;
-    each_row(&mut input, |input, row| {
+    each_row(&mut input, ROW_WITH_DATA, |input, row| {
         let mut room = [0; 4096];
         run(&mut out, row.with_data(input, &mut room)?)
     })?;

@@ -18,6 +18,7 @@ enum Asked {
     Save,
     // At address c, of the first d bytes of the image buffer, without a graphics section.
     TakeInImage,
+    // Of any other kind: the call is set_attribute, under this name.
     Unknown,
 }
 
@@ -122,7 +123,9 @@ impl Bench {
             Asked::Call(call) => run_call(call, &mut self.hall, self.n, self.room, row),
             Asked::TakeIn => self.take_in(row),
             Asked::TakeInImage => self.take_in_image(row),
-            Asked::Unknown => return writeln!(out),
+            Asked::Unknown => {
+                run_call(Call::SetAttribute, &mut self.hall, self.n, self.room, row)
+            }
         };
         self.finish_call(out, answer)
     }

@@ -6,7 +6,7 @@ mod lists;
 
 use lists::Bench;
 use std::io::{self, BufReader, BufWriter, Write};
-use testing::each_row;
+use testing::{ROW_WITH_DATA, each_row};
 
 // At most 4,096 bytes follow a row.
 fn main(rt: HostRuntime) -> io::Result<()> {
@@ -19,7 +19,7 @@ fn main(rt: HostRuntime) -> io::Result<()> {
         room: 0,
         n: 0,
     };
-    each_row(&mut input, |input, row| {
+    each_row(&mut input, ROW_WITH_DATA, |input, row| {
         let mut room = [0; 4096];
         bench.run(&mut out, row.with_data(input, &mut room)?)
     })?;

@@ -11,7 +11,7 @@ mod unified;
 mod values;
 
 use std::io::{self, BufReader, BufWriter, Write};
-use testing::{Row, each_row};
+use testing::{ROW_WITH_DATA, Row, each_row};
 
 // The one place that reads the kind's number: an enum would be a second table beside this one.
 fn run(out: &mut impl Write, row: Row) -> io::Result<()> {
@@ -39,7 +39,7 @@ fn main(rt: HostRuntime) -> io::Result<()> {
     let alloc = rt.alloc();
     let mut input = BufReader::new(alloc, rt.reader())?;
     let mut out = BufWriter::new(alloc, io::writer(&rt))?;
-    each_row(&mut input, |input, row| {
+    each_row(&mut input, ROW_WITH_DATA, |input, row| {
         let mut room = [0; 512];
         run(&mut out, row.with_data(input, &mut room)?)
     })?;

@@ -1,7 +1,7 @@
 // Rows about unified vertices.
 use crate::declarations::vertices_of;
 use std::io::{self, Write};
-use testing::{Row, bytes, checksum, first, first_mut, numbers, rest, unwritten};
+use testing::{Row, bytes, checksum, first, numbers, rest, unwritten};
 use vertices::{NeedsBytes, UnifyError};
 
 // The bytes of 147 vertices, and 4 more.
@@ -25,12 +25,16 @@ fn outcome(
 }
 
 // unified_vertices, of data with stride a and b vertices, by a declaration of flags c and types d, into an output of e bytes,
-// at most 512. Prints the checksum of all 512 bytes that the output was lent of, and its first 100 bytes.
+// at most 512; for more there is no call, and the line says that it needs 0. Prints the checksum of all 512 bytes that the output was lent of, and its
+// first 100 bytes.
 pub fn unify_row(out: &mut impl Write, row: Row) -> io::Result<()> {
     let mut to = unwritten::<512>();
     write!(out, "unify")?;
     numbers(out, row, 5)?;
-    let answer = vertices::unified_vertices(vertices_of(row), first_mut(&mut to, row.e as usize));
+    let answer = match to.get_mut(..row.e as usize) {
+        Some(part) => vertices::unified_vertices(vertices_of(row), part),
+        None => Err(UnifyError::NeedsBytes(NeedsBytes(0))),
+    };
     outcome(out, answer, &to, first(&to, 100))
 }
 

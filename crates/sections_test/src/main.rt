@@ -9,7 +9,7 @@ mod lists;
 mod lookup;
 
 use std::io::{self, BufReader, BufWriter, Write};
-use testing::{Row, each_row};
+use testing::{ROW, Row, each_row};
 
 // The one place that reads the kind's number: an enum would be a second table beside this one.
 fn run(out: &mut impl Write, row: Row) -> io::Result<()> {
@@ -33,6 +33,6 @@ fn main(rt: HostRuntime) -> io::Result<()> {
     let alloc = rt.alloc();
     let mut input = BufReader::new(alloc, rt.reader())?;
     let mut out = BufWriter::new(alloc, io::writer(&rt))?;
-    each_row(&mut input, |_, row| run(&mut out, row))?;
+    each_row(&mut input, ROW, |_, row| run(&mut out, row))?;
     out.flush()
 }

@@ -8,5 +8,5 @@ mod values;
 
 pub use buffers::{checksum, fill, first, first_mut, pattern, read_full, rest, unwritten, zeros};
 pub use print::{bytes, done, place};
-pub use rows::{Row, each_row, numbers};
+pub use rows::{ROW, ROW_WITH_DATA, Row, each_row, numbers};
 pub use values::value_in;

@@ -1,10 +1,15 @@
 // What a test program is asked.
-use crate::buffers::{first, read_full, rest};
+use crate::buffers::{first, first_mut, read_full, rest};
 use sections::ResReader;
 use std::array;
 use std::io::{self, Read, Write};
 
-// What is called, the numbers that it is called with, and the bytes behind them, none until they are read.
+// The bytes of a row: of its six numbers, or of a seventh too, which is how many bytes follow.
+pub const ROW: usize = 48;
+
+pub const ROW_WITH_DATA: usize = 56;
+
+// What is called, the numbers that it is called with, how many bytes follow, and those bytes, none until they are read.
 #[derive(Clone, Copy)]
 pub struct Row<'a> {
     pub kind: u64,
@@ -13,6 +18,7 @@ pub struct Row<'a> {
     pub c: u64,
     pub d: u64,
     pub e: u64,
+    pub follow: u64,
     pub data: &'a [u8],
 }
 
@@ -22,11 +28,9 @@ impl<'a> Row<'a> {
         ResReader::new(first(self.data, cut), rest(self.data, cut))
     }
 
-    // The row and the bytes behind it in an input, as many as the number before them says, where the room has so many.
+    // The row and the bytes that follow it in an input, where the room has so many. What the input lacks of them stays as the room has it.
     pub fn with_data<'b>(self, input: &mut impl Read, room: &'b mut [u8]) -> io::Result<Row<'b>> {
-        let mut raw = [0; 8];
-        read_full(input, &mut raw)?;
-        let count = sections::u64_le(&raw, 0) as usize;
+        let count = self.follow as usize;
         if let Some(part) = room.get_mut(..count) {
             read_full(input, part)?;
         }
@@ -37,9 +41,9 @@ impl<'a> Row<'a> {
     }
 }
 
-// The row of six little-endian numbers.
+// The row of six or seven little-endian numbers; without the seventh, no bytes follow.
 fn row_in(raw: &[u8]) -> Row<'static> {
-    let [kind, a, b, c, d, e]: [u64; 6] = array::from_fn(|i| sections::u64_le(raw, 8 * i));
+    let [kind, a, b, c, d, e, follow]: [u64; 7] = array::from_fn(|i| sections::u64_le(raw, 8 * i));
     Row {
         kind,
         a,
@@ -47,28 +51,32 @@ fn row_in(raw: &[u8]) -> Row<'static> {
         c,
         d,
         e,
+        follow,
         data: &[],
     }
 }
 
-// The next row of an input, none where it ends.
-fn next_row(input: &mut impl Read) -> io::Result<Option<Row<'static>>> {
-    let mut raw = [0; 48];
-    if read_full(input, &mut raw)? < 48 {
+// The next row of an input, of so many bytes, none where fewer are left.
+fn next_row(input: &mut impl Read, size: usize) -> io::Result<Option<Row<'static>>> {
+    let mut room = [0; ROW_WITH_DATA];
+    let raw = first_mut(&mut room, size);
+    if read_full(input, raw)? < raw.len() {
         return Ok(None);
     }
-    Ok(Some(row_in(&raw)))
+    Ok(Some(row_in(raw)))
 }
 
-// Runs every row of an input, whose further bytes `run` may read. The turns are counted, since nothing says that an input ends.
+// Runs every row of an input, of ROW or ROW_WITH_DATA bytes; `run` may read those that follow it. The turns are counted, since nothing says that an
+// input ends.
 pub fn each_row<R: Read, F: FnMut(&mut R, Row) -> io::Result<()>>(
     input: &mut R,
+    size: usize,
     mut run: F,
 ) -> io::Result<()>
     requires { F.IsAlwaysCallable run }
 {
     for _ in 0..u64::MAX {
-        match next_row(input)? {
+        match next_row(input, size)? {
             Some(row) => run(input, row)?,
             None => break,
         }

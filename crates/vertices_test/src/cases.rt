@@ -53,6 +53,19 @@ impl Kind {
         Kind::Unorm,
     ];
 
+    // The file. A text of its own for each, so that none is made on the heap.
+    pub fn path(self) -> &'static str {
+        match self {
+            Kind::Halves => "halves.bin",
+            Kind::Neighbours => "neighbours.bin",
+            Kind::HalfColours => "half_colours.bin",
+            Kind::Floats => "floats.bin",
+            Kind::Colours => "colours.bin",
+            Kind::Snorm => "snorm.bin",
+            Kind::Unorm => "unorm.bin",
+        }
+    }
+
     // The bytes of one record.
     pub fn width(self) -> usize
         ensures { 0 < result }

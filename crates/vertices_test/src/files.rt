@@ -53,13 +53,9 @@ fn compare_all(out: &mut impl Write, kind: Kind, file: &mut impl Read) -> io::Re
 }
 
 // A file that does not open is reported on standard error, and no line is printed for it.
-pub fn compare(
-    rt: &(impl Files + Eprint + Alloc),
-    out: &mut impl Write,
-    kind: Kind,
-) -> io::Result<()> {
-    let path = format!(in rt.alloc(); "{kind}.bin")?;
-    let mut file = match fs::open(rt, path.as_str()) {
+pub fn compare(rt: &(impl Files + Eprint), out: &mut impl Write, kind: Kind) -> io::Result<()> {
+    let path = kind.path();
+    let mut file = match fs::open(rt, path) {
         Ok(file) => file,
         Err(e) => return eprintln!(rt; "{path}: {e}"),
     };
